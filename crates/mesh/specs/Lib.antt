@@ -1,0 +1,13 @@
+-- The garment array in definitions that compute, in document 01's words and order. Everything is a number or a list of numbers.
+-- Read them from the top: the search that every test is made of, the numbers fixed once, the triangles, the wood, the verdict,
+-- the mesh as a list of sentences, the array, its readings, the rebuild.
+pub mod Search
+pub mod Limits
+pub mod Sides
+pub mod Wood
+pub mod Verdict
+pub mod Mesh
+pub mod Array
+pub mod Reading
+pub mod Point
+pub mod Rebuild
