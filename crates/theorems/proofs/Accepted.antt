@@ -1,0 +1,277 @@
+-- From the verdict to the geometry: an accepted mesh is a rotation system (`surface`) whose wood is Marked (`marked`). Each fact
+-- is one fault that does not apply, read as a sentence; the law at inner vertices is the turn rule carried from the labels that
+-- one turn meets to the positions of the table.
+use Prim.Native.Nat.{ℕ, suc, _+_, _-_, _*_, _/_, _%_, _≤_, _<_}
+use mathlib.Core.Path.{_≡_, refl, sym, ap, _∙_, subst}
+use mathlib.Core.List.{List}
+use mathlib.Core.Bool.{true, false, not, _&&_, _||_}
+use native.Mathlib.Omega.{arith}
+use lib.ListN.{length}
+use lib.Dec.{leb, ltb, eqb}
+use borrow.Author.Tests.{ltb-false, leb-false, le-leb, eqb-true, lt-ltb, eq-eqb, not-false}
+use Rattle.mesh.specs.Search.{first, firstFrom, some, every, iterate, tabulate}
+use Rattle.mesh.specs.Limits.{at, unusedMark, fewestVertices, mostVertices, outOfRange, trianglesLength, woodLength}
+use Rattle.mesh.specs.Sides.{next, from, to, sideAt, third, isNeighbour, turnLength}
+use Rattle.mesh.specs.Wood.{Label, out, source, target, edgeOf, anchorTargets, used, labelOf, samePair, turnRule, labelsRound}
+use Rattle.mesh.specs.Verdict.{wrongLengths, outerFault, anchorEdgeFault, targetFault, woodFault, joinFault, pairFault, edgeFault, anchorFault, turnRuleFault}
+use Rattle.mesh.proofs.Tests.{byBool, clash, and-true, and-fails, or-false, or-true, or-right, by-order}
+use Rattle.mesh.proofs.Search.{some-none, every-at}
+use Rattle.mesh.proofs.Iterate.{iterate-zero, iterate-step}
+use Rattle.mesh.proofs.Positions.{next-in, next-div, next-3, same-triangle, sideAt-law}
+use Rattle.mesh.proofs.Paired.{Paired, paired, twin, turn, next-within, simple, third-is, twin-2, twin-from, turn-from, turns-to, neighbour-side}
+use Rattle.mesh.proofs.Round.{turn-closes, turn-steps, turn-meets, turn-meets-once}
+use Rattle.mesh.proofs.Labels.{sees-out}
+use Rattle.mesh.proofs.TurnRule.{Step, rule-steps}
+use Rattle.mesh.proofs.Verdict.{Clear}
+use Rattle.theorems.proofs.Rotation.{Rotation}
+use Rattle.theorems.proofs.Marked.{Marked}
+
+module _ (n : ℕ) (ts ws : List ℕ) (A : Clear n ts ws) where
+  pub enough : fewestVertices ≤ n
+  unfolding outOfRange
+  enough = ltb-false n fewestVertices (or-false (ltb n fewestVertices) (ltb mostVertices n) (A .no1) .0)
+
+  pub not-too-many : n ≤ mostVertices
+  unfolding outOfRange
+  not-too-many = ltb-false mostVertices n (or-false (ltb n fewestVertices) (ltb mostVertices n) (A .no1) .1)
+
+  lengths : (length ts ≡ trianglesLength n) × (length ws ≡ woodLength n)
+  unfolding wrongLengths
+  lengths =
+      let t = and-true (eqb (length ts) (trianglesLength n)) (eqb (length ws) (woodLength n)) (not-false _ (A .no2)) in
+      (eqb-true (length ts) (trianglesLength n) (t .0), eqb-true (length ws) (woodLength n) (t .1))
+
+  pub triangles-length : length ts ≡ trianglesLength n
+  triangles-length = lengths .0
+
+  pub wood-length : length ws ≡ woodLength n
+  wood-length = lengths .1
+
+  pub few : n < unusedMark
+  few = let a = not-too-many in omega arith
+
+  pub whole : length ts ≡ 3 * (2 * n - 4)
+  whole = let a = enough in let b = triangles-length in omega arith
+
+  pub pairs : Paired n ts
+  pairs = paired n (2 * n - 4) ts whole (A .table .no3) (A .table .no4) (A .table .no5) (A .table .no6)
+
+  pub meets-all : (p q : ℕ) → p < length ts → q < length ts → from ts p ≡ from ts q → (k : ℕ) × (iterate (λ x. twin ts (next (next x))) k p ≡ q)
+  unfolding turn
+  meets-all p q l g e = turn-meets n ts pairs (let a = few in omega arith) (A .table .no8) p q l g e
+
+  -- the rotation system of the table
+  abbrev pub surface : Rotation
+  surface = record {
+    size = length ts;
+    next = next;
+    twin = twin ts;
+    from = from ts;
+    face = λ p. p / 3;
+    face-next = λ p l. next-div p;
+    face-cases = λ p q l g e. same-triangle p q e;
+    next-in = next-within n ts pairs;
+    next-3 = λ p l. next-3 p;
+    twin-in = pairs .twin-in;
+    twin-2 = twin-2 n ts pairs;
+    from-twin = twin-from n ts pairs;
+    differ = pairs .differ;
+    once = simple n ts pairs;
+    meets-all = meets-all;
+  }
+
+  -- 9: the wood's first nine places
+  pub anchor-edges : (i : ℕ) → i < 9 → target ws i ≡ at anchorTargets i
+  unfolding woodFault
+  anchor-edges i l =
+      eqb-true (target ws i) (at anchorTargets i)
+      (not-false (eqb (target ws i) (at anchorTargets i))
+      (some-none (anchorEdgeFault ws) 9 (or-false (some (anchorEdgeFault ws) 9) (some (targetFault n ws) (3 * n)) (A .wood .no9) .0) i l))
+
+  -- 9: the other targets
+  pub targets : (e : ℕ) → 9 ≤ e → e < 3 * n → target ws e < n
+  unfolding woodFault
+  targets e h l =
+      and-fails (leb 9 e) (leb n (target ws e))
+      (some-none (targetFault n ws) (3 * n) (or-false (some (anchorEdgeFault ws) 9) (some (targetFault n ws) (3 * n)) (A .wood .no9) .1) e l)
+      (λ t. absurd (omega (arith, leb-false 9 e t))) (λ t. leb-false n (target ws e) t)
+
+  pub used-inner : (e : ℕ) → 9 ≤ e → used e ≡ true
+  unfolding used
+  used-inner e l = rw (le-leb 9 e l)
+
+  -- an index with a target below n is used
+  pub used-low : (e : ℕ) → target ws e < n → used e ≡ true
+  unfolding used every first firstFrom
+  used-low e h =
+      byBool (leb 9 e) (λ t. rw t)
+      (λ t.
+      let l : e < 9 = leb-false 9 e t in
+      let b = anchor-edges e l in
+      let f = few in
+      or-true (eqb (at anchorTargets e) unusedMark) (used e)
+      (every-at (λ e. eqb (at anchorTargets e) unusedMark || used e) 9 refl e l)
+      (λ q. absurd (omega (arith, eqb-true (at anchorTargets e) unusedMark q))) (λ q. q))
+
+  -- 10: an edge runs along a side
+  pub edge-in : (e : ℕ) → used e ≡ true → e < 3 * n → sideAt ts (source e) (target ws e) < length ts
+  unfolding edgeFault
+  edge-in e u l =
+      let t = some-none (joinFault n (third ts) ws) (3 * n) (or-false (some (joinFault n (third ts) ws) (3 * n)) (some (pairFault ws) (3 * n)) (A .wood .no10) .0) e l in
+      neighbour-side n ts pairs (let a = few in omega arith) (source e) (target ws e)
+      (and-fails (used e) (not (isNeighbour n (third ts) (source e) (target ws e))) t (λ q. clash (used e) u q)
+      (λ q. not-false (isNeighbour n (third ts) (source e) (target ws e)) q))
+
+  pub pairs-apart : (d e : ℕ) → used d ≡ true → used e ≡ true → d < e → e < 3 * n → samePair ws d e ≡ false
+  unfolding edgeFault
+  pairs-apart d e u v l h =
+      let t = some-none (pairFault ws) (3 * n) (or-false (some (joinFault n (third ts) ws) (3 * n)) (some (pairFault ws) (3 * n)) (A .wood .no10) .1) e h in
+      and-fails (used e) (some (λ d. used d && samePair ws d e) e) t (λ q. clash (used e) v q)
+      (λ q. and-fails (used d) (samePair ws d e) (some-none (λ d. used d && samePair ws d e) e q d l) (λ r. clash (used d) u r) (λ r. r))
+
+  -- two edges that join a pair are one
+  one-pair : (d e : ℕ) → d < 3 * n → e < 3 * n → target ws d < n → target ws e < n → samePair ws d e ≡ true → samePair ws e d ≡ true → d ≡ e
+  one-pair d e l h a b s t =
+      by-order d e (λ o. clash (samePair ws d e) s (pairs-apart d e (used-low d a) (used-low e b) o h)) (λ q. q)
+      (λ o. clash (samePair ws e d) t (pairs-apart e d (used-low e b) (used-low d a) o l))
+
+  pub pair-same : (d e : ℕ) → source d ≡ source e → target ws d ≡ target ws e → samePair ws d e ≡ true
+  unfolding samePair
+  pair-same d e p q = rw (eq-eqb (source d) (source e) p, eq-eqb (target ws d) (target ws e) q)
+
+  pub pair-back : (d e : ℕ) → source d ≡ target ws e → target ws d ≡ source e → samePair ws d e ≡ true
+  unfolding samePair
+  pair-back d e p q =
+      or-right (eqb (source d) (source e) && eqb (target ws d) (target ws e)) (eqb (source d) (target ws e) && eqb (target ws d) (source e))
+      (rw (eq-eqb (source d) (target ws e) p, eq-eqb (target ws d) (source e) q))
+
+  pub pair-once : (a b c d : ℕ) → a < n → b < n → c < 3 → d < 3 → target ws (3 * a + c) ≡ b → target ws (3 * a + d) ≡ b → c ≡ d
+  pair-once a b c d la lb lc ld p q =
+      let x : (3 * a + c) / 3 ≡ (3 * a + d) / 3 = omega arith in
+      let z =
+      one-pair (3 * a + c) (3 * a + d) (omega arith) (omega arith) (omega arith) (omega arith)
+      (pair-same (3 * a + c) (3 * a + d) x (p ∙ sym q)) (pair-same (3 * a + d) (3 * a + c) (sym x) (q ∙ sym p)) in
+      omega arith
+
+  no-loop : (a c : ℕ) → a < n → c < 3 → target ws (3 * a + c) ≡ a → ⊥
+  no-loop a c la lc e =
+      let x : (3 * a + c) / 3 ≡ a = omega arith in
+      let i = edge-in (3 * a + c) (used-low (3 * a + c) (omega arith)) (omega arith) in
+      let s = sideAt-law ts ((3 * a + c) / 3) (target ws (3 * a + c)) i in
+      pairs .differ (sideAt ts ((3 * a + c) / 3) (target ws (3 * a + c))) i (s .0 ∙ x ∙ sym e ∙ sym (s .1))
+
+  pub one-way : (a b c d : ℕ) → a < n → b < n → c < 3 → d < 3 → target ws (3 * a + c) ≡ b → target ws (3 * b + d) ≡ a → ⊥
+  one-way a b c d la lb lc ld p q =
+      let x : (3 * a + c) / 3 ≡ a = omega arith in
+      let y : (3 * b + d) / 3 ≡ b = omega arith in
+      let z =
+      one-pair (3 * a + c) (3 * b + d) (omega arith) (omega arith) (omega arith) (omega arith)
+      (pair-back (3 * a + c) (3 * b + d) (x ∙ sym q) (p ∙ sym y)) (pair-back (3 * b + d) (3 * a + c) (y ∙ sym p) (q ∙ sym x)) in
+      let w : b ≡ a = omega arith in
+      no-loop a c la lc (p ∙ w)
+
+  -- 11
+  pub anchor-rule : (e : ℕ) → 9 ≤ e → e < 3 * n → target ws e < 3 → e % 3 ≡ target ws e
+  anchor-rule e h l k =
+      and-fails (leb 9 e) (ltb (target ws e) 3 && not (eqb (e % 3) (target ws e))) (some-none (anchorFault ws) (3 * n) (A .wood .no11) e l)
+      (λ t. absurd (omega (arith, leb-false 9 e t)))
+      (λ t. and-fails (ltb (target ws e) 3) (not (eqb (e % 3) (target ws e))) t
+      (λ u. absurd (omega (arith, ltb-false (target ws e) 3 u)))
+      (λ u. eqb-true (e % 3) (target ws e) (not-false (eqb (e % 3) (target ws e)) u)))
+
+  -- 12
+  pub turn-rule : (v : ℕ) → 3 ≤ v → v < n → turnRule 0 (labelsRound n (third ts) ws v) ≡ true
+  turn-rule v h l =
+      and-fails (leb 3 v) (not (turnRule 0 (labelsRound n (third ts) ws v))) (some-none (turnRuleFault n (third ts) ws) n (A .wood .no12) v l)
+      (λ t. absurd (omega (arith, leb-false 3 v t))) (λ t. not-false (turnRule 0 (labelsRound n (third ts) ws v)) t)
+
+  pub outer-side : (sideAt ts 0 2 < length ts) × (third ts 0 2 ≡ 1)
+  unfolding outerFault
+  outer-side =
+      let e : third ts 0 2 ≡ 1 = eqb-true (third ts 0 2) 1 (not-false (eqb (third ts 0 2) 1) (A .table .no7)) in
+      (neighbour-side n ts pairs (let a = few in omega arith) 0 2 (lt-ltb (third ts 0 2) n (let a = enough in omega arith)), e)
+
+  -- the position of an inner vertex's edge of colour 0
+  start : ℕ → ℕ
+  start v = sideAt ts v (target ws (edgeOf v 0))
+
+  start-is : (v : ℕ) → 3 ≤ v → v < n → (start v < length ts) × (from ts (start v) ≡ v) × (to ts (start v) ≡ target ws (edgeOf v 0))
+  unfolding start
+  start-is v h l =
+      let x : (3 * v + 0) / 3 ≡ v = omega arith in
+      let i : sideAt ts v (target ws (edgeOf v 0)) < length ts =
+      subst (λ z. sideAt ts z (target ws (3 * v + 0)) < length ts) x (edge-in (3 * v + 0) (used-inner (3 * v + 0) (omega arith)) (omega arith)) in
+      let s = sideAt-law ts v (target ws (edgeOf v 0)) i in
+      (i, s .0, s .1)
+
+  -- an edge out is the label that one sees of it
+  pub out-label : (a b c : ℕ) → a < n → b < n → c < 3 → target ws (3 * a + c) ≡ b → labelOf ws a b ≡ out c
+  out-label a b c la lb lc e = sees-out ws a b c lc e (λ d ld f. pair-once a b d c la lb ld lc f e)
+
+  -- the labels round an inner vertex, by positions, one after the other
+  around : ℕ → ℕ → Label
+  around v i = labelOf ws v (iterate (third ts v) i (target ws (edgeOf v 0)))
+
+  -- the law of neighbouring labels along the turn from its edge of colour 0
+  along-turn : (v : ℕ) → 3 ≤ v → v < n → (i : ℕ) → i < turnLength n (third ts) v (target ws (edgeOf v 0)) → Step (around v i) (around v (suc i))
+  unfolding labelsRound around
+  along-turn v h l i g =
+      let a : ℕ = target ws (edgeOf v 0) in
+      let s = start-is v h l in
+      let d : ℕ = turnLength n (third ts) v a in
+      let e : turnLength n (third ts) (from ts (start v)) (to ts (start v)) ≡ d = rw (s .1, s .2) in
+      let m : ℕ = d - 1 in
+      let r : d ≡ suc m = (let w = turn-steps n ts pairs (start v) (s .0) in omega arith) in
+      let back : iterate (third ts v) d a ≡ a =
+      rw (s .1, s .2) at
+      (sym (turns-to n ts pairs (turnLength n (third ts) (from ts (start v)) (to ts (start v))) (start v) (s .0)) ∙ ap (to ts) (turn-closes n ts pairs (start v) (s .0))) in
+      let o : labelOf ws v a ≡ out 0 = out-label v a 0 l (targets (3 * v + 0) (omega arith) (omega arith)) (omega arith) refl in
+      rule-steps (around v) m (ap (labelOf ws v) (iterate-zero (third ts v) a) ∙ o)
+      (ap (λ x. labelOf ws v (iterate (third ts v) x a)) (sym r) ∙ ap (labelOf ws v) back ∙ o)
+      (ap (λ x. turnRule 0 (tabulate (around v) x)) (sym r) ∙ turn-rule v h l) i (omega arith)
+
+  -- and so at every side of the vertex
+  inner : (p : ℕ) → p < length ts → 3 ≤ from ts p
+      → Step (labelOf ws (from ts p) (to ts p)) (labelOf ws (from ts (turn ts p)) (to ts (turn ts p)))
+  unfolding around
+  inner p l h =
+      let v : ℕ = from ts p in
+      let lv : v < n = pairs .corner p l in
+      let s = start-is v h lv in
+      let m = turn-meets-once n ts pairs (let a = few in omega arith) (A .table .no8) (start v) p (s .0) l (s .1) in
+      let k : ℕ = m .0 in
+      let a : ℕ = target ws (edgeOf v 0) in
+      let at-k : (j : ℕ) → to ts (iterate (turn ts) j (start v)) ≡ iterate (third ts v) j a =
+      (λ j. rw (s .1, s .2) at (turns-to n ts pairs j (start v) (s .0))) in
+      let g : k < turnLength n (third ts) v a = rw (s .1, s .2) at (m .1) in
+      let x : to ts p ≡ iterate (third ts v) k a = ap (to ts) (sym (m .2)) ∙ at-k k in
+      let y : to ts (turn ts p) ≡ iterate (third ts v) (suc k) a =
+      ap (λ z. to ts (turn ts z)) (sym (m .2)) ∙ ap (to ts) (sym (iterate-step (turn ts) k (start v))) ∙ at-k (suc k) in
+      rw (turn-from n ts pairs p l, x, y) (along-turn v h lv k g)
+
+  edge-side : (e : ℕ) → 9 ≤ e → e < 3 * n → (p : ℕ) × (p < length ts) × (from ts p ≡ e / 3) × (to ts p ≡ target ws e)
+  edge-side e h l =
+      let i = edge-in e (used-inner e h) l in
+      let s = sideAt-law ts (source e) (target ws e) i in
+      (sideAt ts (source e) (target ws e), i, s .0, s .1)
+
+  pub marked : Marked surface n ws
+  unfolding turn
+  marked =
+      let o = outer-side in
+      let s = sideAt-law ts 0 2 (o .0) in
+      record {
+        few = few;
+        corner = pairs .corner;
+        anchor-edges = anchor-edges;
+        edge-side = edge-side;
+        pair-once = pair-once;
+        one-way = one-way;
+        anchor-rule = anchor-rule;
+        inner = inner;
+        outer-at = sideAt ts 0 2;
+        outer-in = o .0;
+        outer-0 = s .0;
+        outer-2 = s .1;
+        outer-1 = sym (third-is n ts pairs 0 2 (sideAt ts 0 2) (o .0) (s .0) (s .1)) ∙ o .1;
+      }
