@@ -1,0 +1,14 @@
+-- A triangle of the flat table as one value of three corners.
+use Prim.Native.Nat.{ℕ, _+_, _*_, _%_}
+use mathlib.Core.Path.{_≡_}
+use mathlib.Core.List.{List, [], _∷_}
+use lib.ListN.{length}
+use Rattle.mesh.specs.Limits.{at}
+
+-- the corners of triangle t
+abbrev pub cornersOf : List ℕ → ℕ → List ℕ
+cornersOf ts t = at ts (3 * t) ∷ at ts (3 * t + 1) ∷ at ts (3 * t + 2) ∷ []
+
+-- the table holds whole triangles
+abbrev pub Whole : List ℕ → Type 0
+Whole ts = length ts % 3 ≡ 0
