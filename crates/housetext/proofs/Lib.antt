@@ -1,0 +1,26 @@
+-- Laws about house text that belong to no one function.
+pub mod Example
+pub mod StoreLaws
+pub mod DigitLaws
+pub mod DigitReadLaws
+pub mod FrameLaws
+pub mod LineLaws
+pub mod ShapeLaws
+pub mod PartLaws
+pub mod ArrayLaws
+pub mod Standing
+pub mod DigitTrip
+pub mod FrameTrip
+pub mod TextTrip
+pub mod TextBack
+pub mod Exact
+pub mod RoundTrip
+pub mod SizeLaws
+pub mod TableLaws
+pub mod AnswerLaws
+pub mod Answers
+pub mod ArrayExample
+pub mod ArrayReadingLaws
+pub mod RoomLaws
+pub mod AnswerLineLaws
+pub mod RebuildTextLaws
