@@ -1,0 +1,65 @@
+//! Runs a program on an input: what it writes, or how it failed.
+
+use std::io::{Read, Write};
+use std::process::{Child, Command, Stdio};
+use std::sync::mpsc;
+use std::thread;
+use std::time::Duration;
+
+use crate::oracle::Program;
+
+/// Longer than any program needs, under emulation too.
+const PATIENCE: Duration = Duration::from_secs(120);
+
+/// The words before a program's name in the command that runs it.
+pub struct Runner {
+    words: Vec<String>,
+}
+
+impl Runner {
+    /// `command`, followed by a program's name, runs that program.
+    pub fn new(command: &str) -> Runner {
+        Runner { words: command.split_whitespace().map(String::from).collect() }
+    }
+
+    fn start(&self, program: Program) -> Result<Child, String> {
+        let first = self.words.first().ok_or("no command to run programs with")?;
+        Command::new(first)
+            .args(&self.words[1..])
+            .arg(program.name())
+            .stdin(Stdio::piped())
+            .stdout(Stdio::piped())
+            .stderr(Stdio::piped())
+            .spawn()
+            .map_err(|error| format!("{first} cannot be started: {error}"))
+    }
+
+    /// What the program writes. It must end with status 0 and say nothing on its standard error.
+    pub fn run(&self, program: Program, input: &[u8]) -> Result<Vec<u8>, String> {
+        let mut child = self.start(program)?;
+        let mut stdin = child.stdin.take().expect("piped");
+        let mut stdout = child.stdout.take().expect("piped");
+        let mut stderr = child.stderr.take().expect("piped");
+        let input = input.to_vec();
+        let (sender, receiver) = mpsc::channel();
+        // A program need not read all of a text that is too long, so a write that fails is no failure.
+        thread::spawn(move || drop(stdin.write_all(&input)));
+        thread::spawn(move || {
+            let (mut wrote, mut said) = (Vec::new(), String::new());
+            let read = stdout.read_to_end(&mut wrote).and(stderr.read_to_string(&mut said));
+            let _ = sender.send(read.map(|_| (wrote, said)));
+        });
+        let Ok(read) = receiver.recv_timeout(PATIENCE) else {
+            let _ = child.kill();
+            let _ = child.wait();
+            return Err(format!("it had not ended after {} s", PATIENCE.as_secs()));
+        };
+        let status = child.wait().map_err(|error| error.to_string())?;
+        let (wrote, said) = read.map_err(|error| error.to_string())?;
+        if status.success() && said.is_empty() {
+            Ok(wrote)
+        } else {
+            Err(format!("it ended with {status} and said {said:?}"))
+        }
+    }
+}

@@ -1,0 +1,294 @@
+//! The slow engine: document 01 sentence by sentence. Every step searches the whole triangle list or the whole wood; nothing
+//! is kept between two questions, so that nothing is shared with an engine that keeps tables.
+
+pub const UNUSED: u16 = 65_535;
+pub const FEWEST: usize = 3;
+pub const MOST: usize = 1_024;
+
+/// What is handed to the builder: n, the triangle table, the wood.
+#[derive(Clone, Debug, PartialEq, Eq)]
+pub struct Mesh {
+    pub n: usize,
+    pub triangles: Vec<[u16; 3]>,
+    pub wood: Vec<u16>,
+}
+
+/// What the builder writes: references and service bytes.
+#[derive(Clone, Debug, PartialEq, Eq)]
+pub struct Array {
+    pub n: usize,
+    pub references: Vec<u16>,
+    pub service: Vec<u8>,
+}
+
+/// "For anchors only edges 3 (to 0), 6 (to 0) and 7 (to 1) exist."
+pub fn used(edge: usize) -> bool {
+    edge == 3 || edge == 6 || edge == 7 || edge >= 9
+}
+
+pub fn source(edge: usize) -> u16 {
+    (edge / 3) as u16
+}
+
+/// "Triangle (a,b,c) has directed sides a to b, b to c, c to a."
+fn sides(mesh: &Mesh) -> Vec<(u16, u16)> {
+    mesh.triangles.iter().flat_map(|&[a, b, c]| [(a, b), (b, c), (c, a)]).collect()
+}
+
+/// The third corner of the triangle with side a to b.
+pub fn third(mesh: &Mesh, a: u16, b: u16) -> Option<u16> {
+    for &[x, y, z] in &mesh.triangles {
+        if (x, y) == (a, b) {
+            return Some(z);
+        }
+        if (y, z) == (a, b) {
+            return Some(x);
+        }
+        if (z, x) == (a, b) {
+            return Some(y);
+        }
+    }
+    None
+}
+
+/// The edge that joins a and b, whichever way it runs.
+pub fn joining(mesh: &Mesh, a: u16, b: u16) -> Option<usize> {
+    (0..mesh.wood.len()).find(|&e| {
+        let ends = (source(e), mesh.wood[e]);
+        used(e) && (ends == (a, b) || ends == (b, a))
+    })
+}
+
+fn is_neighbour(mesh: &Mesh, a: u16, b: u16) -> bool {
+    third(mesh, a, b).is_some() || third(mesh, b, a).is_some()
+}
+
+/// Once round v from its neighbour `start`: "the neighbour after x is the y of the triangle (v,x,y)". None where it does not close.
+fn round(mesh: &Mesh, v: u16, start: u16) -> Option<Vec<u16>> {
+    let mut met = vec![start];
+    let mut x = start;
+    while met.len() <= mesh.triangles.len() {
+        x = third(mesh, v, x)?;
+        if x == start {
+            return Some(met);
+        }
+        met.push(x);
+    }
+    None
+}
+
+/// The number that building meets first, 0 where the mesh is accepted: "each tested over the whole input before the next".
+pub fn verdict(mesh: &Mesh) -> u8 {
+    let tests: [fn(&Mesh) -> bool; 13] = [
+        size_out_of_range,
+        wrong_length,
+        high_corner,
+        equal_corners,
+        side_twice,
+        no_reverse,
+        no_outer_triangle,
+        turn_misses,
+        wrong_index,
+        wrong_pair,
+        anchor_rule_broken,
+        turn_rule_broken,
+        path_rule_broken,
+    ];
+    tests.iter().position(|applies| applies(mesh)).map_or(0, |k| k as u8 + 1)
+}
+
+/// 1: "n below 3 or above 1,024".
+fn size_out_of_range(mesh: &Mesh) -> bool {
+    mesh.n < FEWEST || mesh.n > MOST
+}
+
+/// 2: "a lent table or the frame counts don't have exactly the length that n asks".
+fn wrong_length(mesh: &Mesh) -> bool {
+    mesh.triangles.len() != 2 * mesh.n - 4 || mesh.wood.len() != 3 * mesh.n
+}
+
+/// 3: "a corner is n or more".
+fn high_corner(mesh: &Mesh) -> bool {
+    mesh.triangles.iter().flatten().any(|&corner| corner as usize >= mesh.n)
+}
+
+/// 4: "a triangle has two equal corners".
+fn equal_corners(mesh: &Mesh) -> bool {
+    mesh.triangles.iter().any(|&[a, b, c]| a == b || b == c || c == a)
+}
+
+/// 5: "a directed side occurs twice".
+fn side_twice(mesh: &Mesh) -> bool {
+    let all = sides(mesh);
+    (0..all.len()).any(|k| all[..k].contains(&all[k]))
+}
+
+/// 6: "a directed side's reverse doesn't occur".
+fn no_reverse(mesh: &Mesh) -> bool {
+    let all = sides(mesh);
+    all.iter().any(|&(a, b)| !all.contains(&(b, a)))
+}
+
+/// 7: "the outer triangle isn't in the table". It "reads (0,2,1) up to turning round".
+fn no_outer_triangle(mesh: &Mesh) -> bool {
+    !mesh.triangles.iter().any(|t| [[0, 2, 1], [2, 1, 0], [1, 0, 2]].contains(t))
+}
+
+/// 8: "some vertex is in no triangle, or a turn round it doesn't meet all its triangles".
+fn turn_misses(mesh: &Mesh) -> bool {
+    (0..mesh.n as u16).any(|v| {
+        let own: Vec<&[u16; 3]> = mesh.triangles.iter().filter(|t| t.contains(&v)).collect();
+        let Some(first) = own.first() else { return true };
+        let place = first.iter().position(|&corner| corner == v).unwrap();
+        round(mesh, v, first[(place + 1) % 3]).map_or(0, |met| met.len()) != own.len()
+    })
+}
+
+/// 9: "wood indices 0 to 8 differ from the above, or a target is n or more".
+fn wrong_index(mesh: &Mesh) -> bool {
+    let anchors = [UNUSED, UNUSED, UNUSED, 0, UNUSED, UNUSED, 0, 1, UNUSED];
+    mesh.wood[..9] != anchors || mesh.wood[9..].iter().any(|&target| target as usize >= mesh.n)
+}
+
+/// 10: "an edge joins no two neighbours, or two edges join the same pair".
+fn wrong_pair(mesh: &Mesh) -> bool {
+    let pair = |e: usize| (source(e).min(mesh.wood[e]), source(e).max(mesh.wood[e]));
+    let edges: Vec<usize> = (0..mesh.wood.len()).filter(|&e| used(e)).collect();
+    edges.iter().any(|&e| !is_neighbour(mesh, source(e), mesh.wood[e]))
+        || edges.iter().any(|&e| edges.iter().any(|&d| d < e && pair(d) == pair(e)))
+}
+
+/// 11: "an edge 9 or above that ends at an anchor has that anchor's number as its colour".
+fn anchor_rule_broken(mesh: &Mesh) -> bool {
+    (9..mesh.wood.len()).any(|e| mesh.wood[e] < 3 && e % 3 != mesh.wood[e] as usize)
+}
+
+/// An edge as its end v sees it: it leaves v or comes in, with its colour.
+#[derive(Clone, Copy, PartialEq, Eq)]
+enum Seen {
+    Out(usize),
+    In(usize),
+}
+
+/// 12, at each inner vertex.
+fn turn_rule_broken(mesh: &Mesh) -> bool {
+    (3..mesh.n as u16).any(|v| {
+        let Some(met) = round(mesh, v, mesh.wood[3 * v as usize]) else { return true };
+        let seen: Option<Vec<Seen>> = met.iter().map(|&x| see(mesh, v, x)).collect();
+        seen.is_none_or(|seen| !follows_turn_rule(&seen))
+    })
+}
+
+fn see(mesh: &Mesh, v: u16, x: u16) -> Option<Seen> {
+    let edge = joining(mesh, v, x)?;
+    Some(if source(edge) == v { Seen::Out(edge % 3) } else { Seen::In(edge % 3) })
+}
+
+/// "out 0, any number in 2, out 1, any number in 0, out 2, any number in 1"
+fn follows_turn_rule(seen: &[Seen]) -> bool {
+    let mut rest = seen;
+    for (out, coming) in [(0, 2), (1, 0), (2, 1)] {
+        if rest.first() != Some(&Seen::Out(out)) {
+            return false;
+        }
+        rest = &rest[1..];
+        while rest.first() == Some(&Seen::In(coming)) {
+            rest = &rest[1..];
+        }
+    }
+    rest.is_empty()
+}
+
+/// 13: "from each inner vertex, following one colour c ends at anchor c. This holds for all three colours."
+fn path_rule_broken(mesh: &Mesh) -> bool {
+    (3..mesh.n).any(|v| (0..3).any(|c| path_end(mesh, v, c) != Some(c)))
+}
+
+/// The first anchor on the way from v along colour c; None where n steps meet none.
+fn path_end(mesh: &Mesh, v: usize, c: usize) -> Option<usize> {
+    let mut at = v;
+    for _ in 0..mesh.n {
+        at = mesh.wood[3 * at + c] as usize;
+        if at < 3 {
+            return Some(at);
+        }
+    }
+    None
+}
+
+/// The two ends of edge j and the third corners beside it.
+struct Beside {
+    u: u16,
+    v: u16,
+    w: u16,
+    z: u16,
+}
+
+/// "w is the third corner of the triangle with side u to v (left), z that of the one with side v to u (right)"
+fn beside(mesh: &Mesh, j: usize) -> Beside {
+    let (u, v) = (source(j), mesh.wood[j]);
+    let corner = |a, b| third(mesh, a, b).expect("each side of an accepted mesh has its triangle");
+    Beside { u, v, w: corner(u, v), z: corner(v, u) }
+}
+
+fn joins(mesh: &Mesh, a: u16, b: u16) -> usize {
+    joining(mesh, a, b).expect("each side of an accepted mesh has its edge")
+}
+
+/// All that may be asked about one edge, as the triangles give it.
+#[derive(Clone, Debug, PartialEq, Eq)]
+pub struct Answers {
+    pub source: u16,
+    pub target: u16,
+    pub reads: usize,
+    pub left_front: usize,
+    pub right_front: usize,
+    pub left_back: usize,
+    pub right_back: usize,
+}
+
+/// "LeftFront joins v and w, RightFront v and z, LeftBack u and w, RightBack u and z."
+pub fn answers(mesh: &Mesh, j: usize) -> Answers {
+    let Beside { u, v, w, z } = beside(mesh, j);
+    Answers {
+        source: u,
+        target: v,
+        reads: reads(mesh, j),
+        left_front: joins(mesh, v, w),
+        right_front: joins(mesh, v, z),
+        left_back: joins(mesh, u, w),
+        right_back: joins(mesh, u, z),
+    }
+}
+
+/// Steps clockwise round the target v of j, to the other end of the edge that tells v: edge 3 at anchor 0, edge 7 at anchor 1,
+/// elsewhere the edge of colour c+1 that leaves v.
+fn reads(mesh: &Mesh, j: usize) -> usize {
+    let v = mesh.wood[j];
+    let end = match v {
+        0 => source(3),
+        1 => source(7),
+        _ => mesh.wood[3 * v as usize + (j + 1) % 3],
+    };
+    let (mut x, mut steps) = (source(j), 0);
+    while x != end {
+        x = third(mesh, x, v).expect("each side of an accepted mesh has its triangle");
+        steps += 1;
+    }
+    steps
+}
+
+/// The array of a mesh whose sides all have their edges, as document 01's "The array" says.
+pub fn build(mesh: &Mesh) -> Array {
+    let mut references = vec![UNUSED; 6 * mesh.n];
+    let mut service = vec![0; 3 * mesh.n];
+    for j in (0..3 * mesh.n).filter(|&j| used(j)) {
+        let Beside { u, v, w, z } = beside(mesh, j);
+        references[2 * j] = joins(mesh, v, w) as u16;
+        references[2 * j + 1] = joins(mesh, v, z) as u16;
+        let left = source(joins(mesh, u, w)) == u;
+        let right = source(joins(mesh, u, z)) == u;
+        service[j] = left as u8 + 2 * right as u8;
+    }
+    Array { n: mesh.n, references, service }
+}
