@@ -1,16 +1,21 @@
--- Laws about the definitions of specs/, for whoever proves something over them: tests and cases; the search; counting; iteration;
--- lists given by a function; positions and sides of a table; the rotation that an unbroken table is.
+-- Laws about the definitions of specs/, for whoever proves something over them.
+
+-- Tests and case splits, the search, counting, iteration, lists given by a function.
 pub mod Tests
 pub mod Search
 pub mod Count
 pub mod Iterate
 pub mod Lists
+pub mod SameList
+-- The triangle table: positions and sides, sides in pairs, one turn round a vertex.
 pub mod Positions
 pub mod Paired
-pub mod Verdict
-pub mod TurnRule
 pub mod Round
-pub mod Walk
-pub mod SameList
-pub mod Samples
+-- The wood: labels, and the turn rule as a law of neighbouring labels.
 pub mod Labels
+pub mod TurnRule
+-- The ladder of numbers; Target's walk on any array.
+pub mod Verdict
+pub mod Walk
+-- Small examples that compute.
+pub mod Samples
