@@ -6,6 +6,7 @@ pub mod Search
 pub mod Count
 pub mod Iterate
 pub mod Lists
+pub mod Limits
 pub mod SameList
 -- The triangle table: positions and sides, sides in pairs, one turn round a vertex.
 pub mod Positions
@@ -14,7 +15,8 @@ pub mod Round
 -- The wood: labels, and the turn rule as a law of neighbouring labels.
 pub mod Labels
 pub mod TurnRule
--- The ladder of numbers; Target's walk on any array.
+-- Ladders of numbers, and the mesh's; Target's walk on any array.
+pub mod Ladder
 pub mod Verdict
 pub mod Walk
 -- Small examples that compute.

@@ -9,7 +9,7 @@ use mathlib.Core.List.{List, [], _∷_, _++_, append-nil, append-assoc}
 use mathlib.Core.Logic.{⊎-elim}
 use lib.ListN.{length, getD, set, drop, length-set, length-append, length-drop}
 use lib.Seq.{ext-getD, getD-set-same, getD-set-other, sets, sets-eq, take-append-seam, drop-append-add, drop-drop}
-use Rattle.mesh.specs.Search.{tabulate, tabulateFrom, gather, gatherFrom}
+use Rattle.mesh.specs.Search.{tabulate, tabulateFrom, gather, gatherFrom, painted}
 
 length-tabulateFrom {ℓ} : {A : Type ℓ} (f : ℕ → A) (k m : ℕ) → length (tabulateFrom f k m) ≡ m
 unfolding tabulateFrom
@@ -40,11 +40,6 @@ pub tabulate-cong {ℓ} : {A : Type ℓ} (f g : ℕ → A) (m : ℕ) → ((i : �
 tabulate-cong f g m h =
     ext-getD (f 0) (tabulate f m) (tabulate g m) (length-tabulate f m ∙ sym (length-tabulate g m))
     (λ i l. let k : i < m = omega (arith, length-tabulate f m) in getD-tabulate f m i (f 0) k ∙ h i k ∙ sym (getD-tabulate g m i (f 0) k))
-
--- the buffer d with its first m places set by f
-unfoldable pub painted : (ℕ → ℕ) → ℕ → List ℕ → List ℕ
-painted f zero d = d
-painted f (suc m) d = set (painted f m d) m (f m)
 
 module _ (f : ℕ → ℕ) where
   pub painted-none : (d : List ℕ) → painted f 0 d ≡ d

@@ -14,28 +14,10 @@ use Rattle.mesh.specs.Search.{some, iterate}
 use Rattle.mesh.specs.Limits.{unusedMark}
 use Rattle.mesh.specs.Sides.{next, from, to, sideAt, third, isNeighbour}
 use Rattle.mesh.specs.Verdict.{cornerFault, equalFault, repeatFault, reverseFault}
+use Rattle.mesh.specs.Paired.{twin, turn, turnBack, Paired}
 use Rattle.mesh.proofs.Tests.{byBool}
 use Rattle.mesh.proofs.Search.{some-none}
 use Rattle.mesh.proofs.Positions.{next-in, next-3, sideAt-law, sideAt-le, sideAt-only, third-at, third-none}
-
--- the position of the reverse of the side at p
-unfoldable pub twin : List ℕ → ℕ → ℕ
-twin ts p = sideAt ts (to ts p) (from ts p)
-
--- the next side round the vertex that the side at p leaves, counterclockwise; the one before
-unfoldable pub turn : List ℕ → ℕ → ℕ
-turn ts p = twin ts (next (next p))
-
-unfoldable pub turnBack : List ℕ → ℕ → ℕ
-turnBack ts p = next (twin ts p)
-
-pub record Paired (n : ℕ) (ts : List ℕ) : Type 0 where
-  pub many : ℕ
-  pub whole : length ts ≡ 3 * many
-  pub corner : (p : ℕ) → p < length ts → from ts p < n
-  pub differ : (p : ℕ) → p < length ts → from ts p ≢ to ts p
-  pub once : (p : ℕ) → p < length ts → sideAt ts (from ts p) (to ts p) ≡ p
-  pub twin-in : (p : ℕ) → p < length ts → twin ts p < length ts
 
 -- the tests give it
 pub paired : (n m : ℕ) (ts : List ℕ) → length ts ≡ 3 * m

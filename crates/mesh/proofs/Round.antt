@@ -18,7 +18,8 @@ use Rattle.mesh.proofs.Search.{first-law, first-at, some-at, some-none,
 use Rattle.mesh.proofs.Count.{pigeon, count-all}
 use Rattle.mesh.proofs.Iterate.{iterate-add, least, period, come-back}
 use Rattle.mesh.proofs.Positions.{sideAt-law}
-use Rattle.mesh.proofs.Paired.{Paired, turn, turn-in, turn-inj, turns-in, turns-from, turns-to, simple, to-in, neighbour-side, side-neighbour, side-is}
+use Rattle.mesh.specs.Paired.{turn, Paired}
+use Rattle.mesh.proofs.Paired.{turn-in, turn-inj, turns-in, turns-from, turns-to, simple, to-in, neighbour-side, side-neighbour, side-is}
 
 module _ (n : ℕ) (ts : List ℕ) (P : Paired n ts) where
   -- steps that end at one side began at one

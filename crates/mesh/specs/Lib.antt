@@ -4,7 +4,9 @@
 pub mod Search
 pub mod Limits
 pub mod Sides
+pub mod Paired
 pub mod Wood
+pub mod Ladder
 pub mod Verdict
 pub mod Mesh
 pub mod Array

@@ -1,11 +1,11 @@
--- The numbers that document 01 fixes, each named once, and the reading of a table.
-use Prim.Native.Nat.{ℕ, _-_, _*_}
+-- The numbers that are fixed, each named once, and the reading of a table. Every other limit is derived from these by name.
+use Prim.Native.Nat.{ℕ, _-_, _*_, _≤_}
 use mathlib.Core.List.{List}
 use mathlib.Core.Bool.{Bool, _||_}
 use lib.ListN.{getD}
 use lib.Dec.{ltb}
 
--- "with n from 3 to 1,024"
+-- how many vertices a mesh has
 abbrev pub fewestVertices : ℕ
 fewestVertices = 3
 
@@ -15,6 +15,10 @@ mostVertices = 1024
 -- what unused indices and places hold
 abbrev pub unusedMark : ℕ
 unusedMark = 65535
+
+-- the highest service byte that is not torn: all bits that have a meaning are set
+abbrev pub mostService : ℕ
+mostService = 3
 
 -- what stands at place i of a table; past its end the mark
 abbrev pub at : List ℕ → ℕ → ℕ
@@ -36,6 +40,11 @@ serviceLength n = 3 * n
 abbrev pub coordinatesLength : ℕ → ℕ
 coordinatesLength n = 3 * n
 
--- number 1: "n below 3 or above 1,024"
+-- number 1: too few or too many vertices
 unfoldable pub outOfRange : ℕ → Bool
 outOfRange n = ltb n fewestVertices || ltb mostVertices n
+
+-- what number 1 leaves
+pub record InRange (n : ℕ) : Type 0 where
+  pub enough : fewestVertices ≤ n
+  pub not-too-many : n ≤ mostVertices

@@ -8,7 +8,7 @@ use Rattle.mesh.specs.Limits.{at, unusedMark, woodLength, referencesLeng
 use Rattle.mesh.specs.Wood.{source, target, used, colourTo, labelOf, edgeAt}
 use Rattle.mesh.specs.Verdict.{verdict}
 use Rattle.mesh.specs.Array.{Hand, left, right, frontPlace, handAt, referencesOf}
-use Rattle.mesh.specs.Reading.{targetAnswer}
+use Rattle.mesh.specs.Reading.{frontsIn, targetAnswer}
 
 -- the vertex of Target's answer; the mark where it is refused
 abbrev pub vertexOf : List ℕ → ℕ
@@ -17,7 +17,7 @@ vertexOf (k ∷ []) = unusedMark
 vertexOf (k ∷ v ∷ rest) = v
 
 unfoldable pub rebuiltTarget : ℕ → List ℕ → ℕ → ℕ
-rebuiltTarget n refs j = cond (used j) (vertexOf (targetAnswer n refs j)) unusedMark
+rebuiltTarget n refs j = cond (used j) (vertexOf (targetAnswer n (frontsIn refs) j)) unusedMark
 
 unfoldable pub rebuiltWood : ℕ → List ℕ → List ℕ
 unfolding rebuiltTarget targetAnswer tabulateFrom tabulate used

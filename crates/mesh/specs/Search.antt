@@ -2,6 +2,7 @@
 use Prim.Native.Nat.{ℕ, zero, suc, _+_}
 use mathlib.Core.List.{List, [], _∷_, _++_}
 use mathlib.Core.Bool.{Bool, cond, not}
+use lib.ListN.{set}
 use lib.Dec.{leb, ltb}
 
 -- the lowest number from k on that passes, of the next m; k + m where none of them does
@@ -46,3 +47,8 @@ gatherFrom f k (suc m) = f k ++ gatherFrom f (suc k) m
 -- the lists f 0, f 1, .., f (m - 1) one after the other
 unfoldable pub gather : (ℕ → List ℕ) → ℕ → List ℕ
 gather f m = gatherFrom f 0 m
+
+-- the buffer d with its first m places set by f
+unfoldable pub painted : (ℕ → ℕ) → ℕ → List ℕ → List ℕ
+painted f zero d = d
+painted f (suc m) d = set (painted f m d) m (f m)

@@ -1,13 +1,14 @@
 -- Numbers 1 to 13. Each fault is "some place below a bound is at fault", so its lowest place is a search too; each is over the
 -- whole input, and is asked only where none before it applies.
 use Prim.Native.Nat.{ℕ, _*_}
-use mathlib.Core.List.{List}
-use mathlib.Core.Bool.{Bool, cond, not, _&&_, _||_}
+use mathlib.Core.List.{List, [], _∷_, _++_}
+use mathlib.Core.Bool.{Bool, not, _&&_, _||_}
 use lib.ListN.{length}
 use lib.Dec.{leb, ltb, eqb}
 use Rattle.mesh.specs.Search.{firstFrom, first, some, iterate, tabulateFrom, tabulate}
 use Rattle.mesh.specs.Limits.{at, outOfRange, trianglesLength, woodLength}
 use Rattle.mesh.specs.Sides.{next, from, to, sideAt, third, isNeighbour, firstNeighbour, meets, turnLength}
+use Rattle.mesh.specs.Ladder.{Rung, rung, firstOf, NoneApplies}
 use Rattle.mesh.specs.Wood.{source, colour, target, anchorTargets, used, colourTo, labelOf, samePair, turnRule, labelsRound, along}
 
 -- 2, of the two tables that a mesh is: "doesn't have exactly the length that n asks"
@@ -70,31 +71,46 @@ turnRuleFault n x ws v = leb 3 v && not (turnRule 0 (labelsRound n x ws v))
 unfoldable pub pathFault : ℕ → List ℕ → ℕ → Bool
 pathFault n ws v = leb 3 v && some (λ c. not (eqb (iterate (along ws c) n v) c)) 3
 
--- 3 to 8, of the triangles; 0 where none applies
-unfoldable pub tableVerdict : ℕ → List ℕ → ℕ
-tableVerdict n ts =
-    let r8 : ℕ = cond (some (turnFault n (third ts)) n) 8 0 in
-    let r7 : ℕ = cond (outerFault (third ts)) 7 r8 in
-    let r6 : ℕ = cond (some (reverseFault ts) (length ts)) 6 r7 in
-    let r5 : ℕ = cond (some (repeatFault ts) (length ts)) 5 r6 in
-    let r4 : ℕ = cond (some (equalFault ts) (length ts)) 4 r5 in
-    cond (some (cornerFault n ts) (length ts)) 3 r4
+-- the ladder of the triangles, and of the wood over triangles with the third corners x
+abbrev pub tableLadder : ℕ → List ℕ → List Rung
+tableLadder n ts =
+    rung 3 (some (cornerFault n ts) (length ts)) ∷
+    rung 4 (some (equalFault ts) (length ts)) ∷
+    rung 5 (some (repeatFault ts) (length ts)) ∷
+    rung 6 (some (reverseFault ts) (length ts)) ∷
+    rung 7 (outerFault (third ts)) ∷
+    rung 8 (some (turnFault n (third ts)) n) ∷ []
 
--- 9 to 13, of the wood over triangles with the third corners x; 0 where none applies
-unfoldable pub woodVerdict : ℕ → (ℕ → ℕ → ℕ) → List ℕ → ℕ
-woodVerdict n x ws =
-    let r13 : ℕ = cond (some (pathFault n ws) n) 13 0 in
-    let r12 : ℕ = cond (some (turnRuleFault n x ws) n) 12 r13 in
-    let r11 : ℕ = cond (some (anchorFault ws) (3 * n)) 11 r12 in
-    let r10 : ℕ = cond (edgeFault n x ws) 10 r11 in
-    cond (woodFault n ws) 9 r10
+abbrev pub woodLadder : ℕ → (ℕ → ℕ → ℕ) → List ℕ → List Rung
+woodLadder n x ws =
+    rung 9 (woodFault n ws) ∷
+    rung 10 (edgeFault n x ws) ∷
+    rung 11 (some (anchorFault ws) (3 * n)) ∷
+    rung 12 (some (turnRuleFault n x ws) n) ∷
+    rung 13 (some (pathFault n ws) n) ∷ []
+
+-- 1, and 2 by the lengths of the tables that a call takes, come before everything else
+abbrev pub sized : ℕ → Bool → List Rung → List Rung
+sized n wrong rest = rung 1 (outOfRange n) ∷ rung 2 wrong ∷ rest
+
+-- 3 to 13, of a mesh; and the whole ladder
+abbrev pub meshLadder : ℕ → List ℕ → List ℕ → List Rung
+meshLadder n ts ws = tableLadder n ts ++ woodLadder n (third ts) ws
+
+abbrev pub ladder : ℕ → List ℕ → List ℕ → List Rung
+ladder n ts ws = sized n (wrongLengths n ts ws) (meshLadder n ts ws)
 
 -- the number that a mesh meets first, 0 where it is accepted
 unfoldable pub verdict : ℕ → List ℕ → List ℕ → ℕ
-unfolding tableVerdict woodVerdict outOfRange wrongLengths outerFault turnFault woodFault edgeFault pathFault firstFrom first some iterate tabulateFrom tabulate next sideAt third firstNeighbour meets turnLength used colourTo labelOf samePair turnRule labelsRound along
-verdict n ts ws =
-    let wood : ℕ = woodVerdict n (third ts) ws in
-    let table : ℕ = tableVerdict n ts in
-    let rest : ℕ = cond (eqb table 0) wood table in
-    let r2 : ℕ = cond (wrongLengths n ts ws) 2 rest in
-    cond (outOfRange n) 1 r2
+unfolding firstOf outOfRange wrongLengths outerFault turnFault woodFault edgeFault pathFault firstFrom first some iterate tabulateFrom tabulate next sideAt third firstNeighbour meets turnLength used colourTo labelOf samePair turnRule labelsRound along
+verdict n ts ws = firstOf (ladder n ts ws)
+
+-- no fault of the triangles applies; none of the wood; none at all
+abbrev pub TableClear : ℕ → List ℕ → Type 0
+TableClear n ts = NoneApplies (tableLadder n ts)
+
+abbrev pub WoodClear : ℕ → (ℕ → ℕ → ℕ) → List ℕ → Type 0
+WoodClear n x ws = NoneApplies (woodLadder n x ws)
+
+abbrev pub Clear : ℕ → List ℕ → List ℕ → Type 0
+Clear n ts ws = NoneApplies (ladder n ts ws)
