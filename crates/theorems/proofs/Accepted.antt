@@ -13,32 +13,32 @@ use Rattle.mesh.specs.Search.{first, firstFrom, some, every, iterate, tabulate}
 use Rattle.mesh.specs.Limits.{at, unusedMark, fewestVertices, mostVertices, outOfRange, trianglesLength, woodLength}
 use Rattle.mesh.specs.Sides.{next, from, to, sideAt, third, isNeighbour, turnLength}
 use Rattle.mesh.specs.Wood.{Label, out, source, target, edgeOf, anchorTargets, used, labelOf, samePair, turnRule, labelsRound}
-use Rattle.mesh.specs.Verdict.{wrongLengths, outerFault, anchorEdgeFault, targetFault, woodFault, joinFault, pairFault, edgeFault, anchorFault, turnRuleFault}
+use Rattle.mesh.specs.Verdict.{wrongLengths, outerFault, anchorEdgeFault, targetFault, woodFault, joinFault, pairFault, edgeFault, anchorFault, turnRuleFault, Clear}
+use Rattle.mesh.proofs.Limits.{in-range}
+use Rattle.mesh.proofs.Ladder.{free}
 use Rattle.mesh.proofs.Tests.{byBool, clash, and-true, and-fails, or-false, or-true, or-right, by-order}
 use Rattle.mesh.proofs.Search.{some-none, every-at}
 use Rattle.mesh.proofs.Iterate.{iterate-zero, iterate-step}
 use Rattle.mesh.proofs.Positions.{next-in, next-div, next-3, same-triangle, sideAt-law}
-use Rattle.mesh.proofs.Paired.{Paired, paired, twin, turn, next-within, simple, third-is, twin-2, twin-from, turn-from, turns-to, neighbour-side}
+use Rattle.mesh.specs.Paired.{Paired, twin, turn}
+use Rattle.mesh.proofs.Paired.{paired, next-within, simple, third-is, twin-2, twin-from, turn-from, turns-to, neighbour-side}
 use Rattle.mesh.proofs.Round.{turn-closes, turn-steps, turn-meets, turn-meets-once}
 use Rattle.mesh.proofs.Labels.{sees-out}
 use Rattle.mesh.proofs.TurnRule.{Step, rule-steps}
-use Rattle.mesh.proofs.Verdict.{Clear}
 use Rattle.theorems.proofs.Rotation.{Rotation}
 use Rattle.theorems.proofs.Marked.{Marked}
 
 module _ (n : ℕ) (ts ws : List ℕ) (A : Clear n ts ws) where
   pub enough : fewestVertices ≤ n
-  unfolding outOfRange
-  enough = ltb-false n fewestVertices (or-false (ltb n fewestVertices) (ltb mostVertices n) (A .no1) .0)
+  enough = in-range n (free A 1) .enough
 
   pub not-too-many : n ≤ mostVertices
-  unfolding outOfRange
-  not-too-many = ltb-false mostVertices n (or-false (ltb n fewestVertices) (ltb mostVertices n) (A .no1) .1)
+  not-too-many = in-range n (free A 1) .not-too-many
 
   lengths : (length ts ≡ trianglesLength n) × (length ws ≡ woodLength n)
   unfolding wrongLengths
   lengths =
-      let t = and-true (eqb (length ts) (trianglesLength n)) (eqb (length ws) (woodLength n)) (not-false _ (A .no2)) in
+      let t = and-true (eqb (length ts) (trianglesLength n)) (eqb (length ws) (woodLength n)) (not-false _ (free A 2)) in
       (eqb-true (length ts) (trianglesLength n) (t .0), eqb-true (length ws) (woodLength n) (t .1))
 
   pub triangles-length : length ts ≡ trianglesLength n
@@ -54,11 +54,11 @@ module _ (n : ℕ) (ts ws : List ℕ) (A : Clear n ts ws) where
   whole = let a = enough in let b = triangles-length in omega arith
 
   pub pairs : Paired n ts
-  pairs = paired n (2 * n - 4) ts whole (A .table .no3) (A .table .no4) (A .table .no5) (A .table .no6)
+  pairs = paired n (2 * n - 4) ts whole (free A 3) (free A 4) (free A 5) (free A 6)
 
   pub meets-all : (p q : ℕ) → p < length ts → q < length ts → from ts p ≡ from ts q → (k : ℕ) × (iterate (λ x. twin ts (next (next x))) k p ≡ q)
   unfolding turn
-  meets-all p q l g e = turn-meets n ts pairs (let a = few in omega arith) (A .table .no8) p q l g e
+  meets-all p q l g e = turn-meets n ts pairs (let a = few in omega arith) (free A 8) p q l g e
 
   -- the rotation system of the table
   abbrev pub surface : Rotation
@@ -86,14 +86,14 @@ module _ (n : ℕ) (ts ws : List ℕ) (A : Clear n ts ws) where
   anchor-edges i l =
       eqb-true (target ws i) (at anchorTargets i)
       (not-false (eqb (target ws i) (at anchorTargets i))
-      (some-none (anchorEdgeFault ws) 9 (or-false (some (anchorEdgeFault ws) 9) (some (targetFault n ws) (3 * n)) (A .wood .no9) .0) i l))
+      (some-none (anchorEdgeFault ws) 9 (or-false (some (anchorEdgeFault ws) 9) (some (targetFault n ws) (3 * n)) (free A 9) .0) i l))
 
   -- 9: the other targets
   pub targets : (e : ℕ) → 9 ≤ e → e < 3 * n → target ws e < n
   unfolding woodFault
   targets e h l =
       and-fails (leb 9 e) (leb n (target ws e))
-      (some-none (targetFault n ws) (3 * n) (or-false (some (anchorEdgeFault ws) 9) (some (targetFault n ws) (3 * n)) (A .wood .no9) .1) e l)
+      (some-none (targetFault n ws) (3 * n) (or-false (some (anchorEdgeFault ws) 9) (some (targetFault n ws) (3 * n)) (free A 9) .1) e l)
       (λ t. absurd (omega (arith, leb-false 9 e t))) (λ t. leb-false n (target ws e) t)
 
   pub used-inner : (e : ℕ) → 9 ≤ e → used e ≡ true
@@ -117,7 +117,7 @@ module _ (n : ℕ) (ts ws : List ℕ) (A : Clear n ts ws) where
   pub edge-in : (e : ℕ) → used e ≡ true → e < 3 * n → sideAt ts (source e) (target ws e) < length ts
   unfolding edgeFault
   edge-in e u l =
-      let t = some-none (joinFault n (third ts) ws) (3 * n) (or-false (some (joinFault n (third ts) ws) (3 * n)) (some (pairFault ws) (3 * n)) (A .wood .no10) .0) e l in
+      let t = some-none (joinFault n (third ts) ws) (3 * n) (or-false (some (joinFault n (third ts) ws) (3 * n)) (some (pairFault ws) (3 * n)) (free A 10) .0) e l in
       neighbour-side n ts pairs (let a = few in omega arith) (source e) (target ws e)
       (and-fails (used e) (not (isNeighbour n (third ts) (source e) (target ws e))) t (λ q. clash (used e) u q)
       (λ q. not-false (isNeighbour n (third ts) (source e) (target ws e)) q))
@@ -125,7 +125,7 @@ module _ (n : ℕ) (ts ws : List ℕ) (A : Clear n ts ws) where
   pub pairs-apart : (d e : ℕ) → used d ≡ true → used e ≡ true → d < e → e < 3 * n → samePair ws d e ≡ false
   unfolding edgeFault
   pairs-apart d e u v l h =
-      let t = some-none (pairFault ws) (3 * n) (or-false (some (joinFault n (third ts) ws) (3 * n)) (some (pairFault ws) (3 * n)) (A .wood .no10) .1) e h in
+      let t = some-none (pairFault ws) (3 * n) (or-false (some (joinFault n (third ts) ws) (3 * n)) (some (pairFault ws) (3 * n)) (free A 10) .1) e h in
       and-fails (used e) (some (λ d. used d && samePair ws d e) e) t (λ q. clash (used e) v q)
       (λ q. and-fails (used d) (samePair ws d e) (some-none (λ d. used d && samePair ws d e) e q d l) (λ r. clash (used d) u r) (λ r. r))
 
@@ -173,7 +173,7 @@ module _ (n : ℕ) (ts ws : List ℕ) (A : Clear n ts ws) where
   -- 11
   pub anchor-rule : (e : ℕ) → 9 ≤ e → e < 3 * n → target ws e < 3 → e % 3 ≡ target ws e
   anchor-rule e h l k =
-      and-fails (leb 9 e) (ltb (target ws e) 3 && not (eqb (e % 3) (target ws e))) (some-none (anchorFault ws) (3 * n) (A .wood .no11) e l)
+      and-fails (leb 9 e) (ltb (target ws e) 3 && not (eqb (e % 3) (target ws e))) (some-none (anchorFault ws) (3 * n) (free A 11) e l)
       (λ t. absurd (omega (arith, leb-false 9 e t)))
       (λ t. and-fails (ltb (target ws e) 3) (not (eqb (e % 3) (target ws e))) t
       (λ u. absurd (omega (arith, ltb-false (target ws e) 3 u)))
@@ -182,13 +182,13 @@ module _ (n : ℕ) (ts ws : List ℕ) (A : Clear n ts ws) where
   -- 12
   pub turn-rule : (v : ℕ) → 3 ≤ v → v < n → turnRule 0 (labelsRound n (third ts) ws v) ≡ true
   turn-rule v h l =
-      and-fails (leb 3 v) (not (turnRule 0 (labelsRound n (third ts) ws v))) (some-none (turnRuleFault n (third ts) ws) n (A .wood .no12) v l)
+      and-fails (leb 3 v) (not (turnRule 0 (labelsRound n (third ts) ws v))) (some-none (turnRuleFault n (third ts) ws) n (free A 12) v l)
       (λ t. absurd (omega (arith, leb-false 3 v t))) (λ t. not-false (turnRule 0 (labelsRound n (third ts) ws v)) t)
 
   pub outer-side : (sideAt ts 0 2 < length ts) × (third ts 0 2 ≡ 1)
   unfolding outerFault
   outer-side =
-      let e : third ts 0 2 ≡ 1 = eqb-true (third ts 0 2) 1 (not-false (eqb (third ts 0 2) 1) (A .table .no7)) in
+      let e : third ts 0 2 ≡ 1 = eqb-true (third ts 0 2) 1 (not-false (eqb (third ts 0 2) 1) (free A 7)) in
       (neighbour-side n ts pairs (let a = few in omega arith) 0 2 (lt-ltb (third ts 0 2) n (let a = enough in omega arith)), e)
 
   -- the position of an inner vertex's edge of colour 0
@@ -238,7 +238,7 @@ module _ (n : ℕ) (ts ws : List ℕ) (A : Clear n ts ws) where
       let v : ℕ = from ts p in
       let lv : v < n = pairs .corner p l in
       let s = start-is v h lv in
-      let m = turn-meets-once n ts pairs (let a = few in omega arith) (A .table .no8) (start v) p (s .0) l (s .1) in
+      let m = turn-meets-once n ts pairs (let a = few in omega arith) (free A 8) (start v) p (s .0) l (s .1) in
       let k : ℕ = m .0 in
       let a : ℕ = target ws (edgeOf v 0) in
       let at-k : (j : ℕ) → to ts (iterate (turn ts) j (start v)) ≡ iterate (third ts v) j a =

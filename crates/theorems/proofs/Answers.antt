@@ -11,17 +11,18 @@ use lib.ListN.{length}
 use lib.Dec.{ltb, eqb}
 use borrow.Author.Tests.{ltb-true, eqb-true, eqb-false}
 use Rattle.mesh.specs.Search.{iterate}
-use Rattle.mesh.specs.Limits.{at}
+use Rattle.mesh.specs.Limits.{at, mostService}
 use Rattle.mesh.specs.Sides.{next, from, to, sideAt, third, isNeighbour, neighbours}
 use Rattle.mesh.specs.Wood.{out, source, colour, target, used, isEdge, edgeBy, edgeAt}
 use Rattle.mesh.specs.Array.{Hand, left, right, frontPlace, front, back, sameSource, referencesOf, serviceOf}
-use Rattle.mesh.specs.Reading.{edgeAnswer, frontAnswer, bitOf, outerBack, innerBack, backAnswer, walk, targetAnswer}
+use Rattle.mesh.specs.Reading.{frontsIn, bytesIn, edgeAnswer, frontAnswer, bitOf, outerBack, innerBack, backAnswer, walk, targetAnswer}
 use Rattle.mesh.proofs.Tests.{byBool, and-true}
 use Rattle.mesh.proofs.Count.{count-inj}
 use Rattle.mesh.proofs.Positions.{sideAt-law, next-3}
-use Rattle.mesh.proofs.Paired.{twin, side-is, side-neighbour, simple, third-is}
-use Rattle.mesh.proofs.Verdict.{Clear}
-use Rattle.mesh.proofs.Walk.{goOn, walk-stops}
+use Rattle.mesh.specs.Paired.{twin}
+use Rattle.mesh.proofs.Paired.{side-is, side-neighbour, simple, third-is}
+use Rattle.mesh.specs.Verdict.{Clear}
+use Rattle.mesh.proofs.Walk.{walk-stops}
 use Rattle.theorems.proofs.Rotation.{degree, turn, turnBack, turn-in, turnBack-in, turnsBack-in}
 use Rattle.theorems.proofs.Marked.{label-between, is-out, is-into, inside, inside6, e3, e6, e7, three}
 use Rattle.theorems.proofs.Accepted.{pairs, surface, marked, edge-in}
@@ -108,10 +109,10 @@ module _ (n : ℕ) (ts ws : List ℕ) (A : Clear n ts ws) where
       ap (isEdge n) e ∙ edge-is-edge n ts ws A q (turn-in (surface n ts ws A) (twin ts p) (pairs n ts ws A .twin-in p (s .within)))
 
   pub front-answer : (h : Hand) (j : ℕ) → used j ≡ true → j < 3 * n
-      → frontAnswer h n (referencesOf n ts ws) j ≡ 0 ∷ front h (third ts) ws j ∷ []
+      → frontAnswer h n (frontsIn (referencesOf n ts ws)) j ≡ 0 ∷ front h (third ts) ws j ∷ []
   unfolding frontAnswer
   front-answer h j u l =
-      ap (edgeAnswer n) (reference-at n ts ws h j u l) ∙ answers h n (referencesOf n ts ws) (front h (third ts) ws j) (front-is-edge h j u l)
+      ap (edgeAnswer n) (reference-at n ts ws h j u l) ∙ answers h n (frontsIn (referencesOf n ts ws)) (front h (third ts) ws j) (front-is-edge h j u l)
 
   -- Backs
   pub back-is-edge : (h : Hand) (j : ℕ) → used j ≡ true → j < 3 * n → isEdge n (back h (third ts) ws j) ≡ true
@@ -128,7 +129,7 @@ module _ (n : ℕ) (ts ws : List ℕ) (A : Clear n ts ws) where
       ap (back right (third ts) ws) (sym (s .named)) ∙ back-right n ts ws A p (colour j) (s .within) (s .goes-out) in
       ap (isEdge n) e ∙ edge-is-edge n ts ws A (turnBack (surface n ts ws A) p) (turnBack-in (surface n ts ws A) p (s .within))
 
-  byte-few : (j : ℕ) → used j ≡ true → j < 3 * n → at (serviceOf n ts ws) j ≤ 3
+  byte-few : (j : ℕ) → used j ≡ true → j < 3 * n → at (serviceOf n ts ws) j ≤ mostService
   byte-few j u l =
       let a = service-at n ts ws j u l in
       let b = is-bit left (third ts) ws j in
@@ -144,7 +145,7 @@ module _ (n : ℕ) (ts ws : List ℕ) (A : Clear n ts ws) where
 
   -- Off the outer triangle the colour law reads a Back.
   inner-left : (j : ℕ) → used j ≡ true → j < 3 * n → j ≢ 3 → j ≢ 7
-      → innerBack left n (referencesOf n ts ws) (at (serviceOf n ts ws) j) j ≡ 0 ∷ back left (third ts) ws j ∷ []
+      → innerBack left n (frontsIn (referencesOf n ts ws)) (at (serviceOf n ts ws) j) j ≡ 0 ∷ back left (third ts) ws j ∷ []
   unfolding sameSource
   inner-left j u l n3 n7 =
       let s = stands j u l in
@@ -156,12 +157,12 @@ module _ (n : ℕ) (ts ws : List ℕ) (A : Clear n ts ws) where
       let o = inside R n ws (marked n ts ws A) p c (s .within) (s .goes-out) (λ q. n3 (sym (s .named) ∙ q)) (λ q. n7 (sym (s .named) ∙ q)) in
       let bit : bitOf left (at (serviceOf n ts ws) j) ≡ cond (eqb (source (edgeHere n ts ws A (turn R p))) (from ts p)) 1 0 =
       byte-bit left j u l ∙ rw (e, s .starts) in
-      ap (innerBack left n (referencesOf n ts ws) (at (serviceOf n ts ws) j)) (sym (s .named)) ∙
-      (left-back R (colours n ts ws A) n (referencesOf n ts ws) (edge-is-edge n ts ws A) reads-left p c (at (serviceOf n ts ws) j) (s .within) o (s .goes-out)
+      ap (innerBack left n (frontsIn (referencesOf n ts ws)) (at (serviceOf n ts ws) j)) (sym (s .named)) ∙
+      (left-back R (colours n ts ws A) n (frontsIn (referencesOf n ts ws)) (edge-is-edge n ts ws A) reads-left p c (at (serviceOf n ts ws) j) (s .within) o (s .goes-out)
       (byte-few j u l) bit ∙ ap (λ x. 0 ∷ x ∷ []) (sym e))
 
   inner-right : (j : ℕ) → used j ≡ true → j < 3 * n → j ≢ 6
-      → innerBack right n (referencesOf n ts ws) (at (serviceOf n ts ws) j) j ≡ 0 ∷ back right (third ts) ws j ∷ []
+      → innerBack right n (frontsIn (referencesOf n ts ws)) (at (serviceOf n ts ws) j) j ≡ 0 ∷ back right (third ts) ws j ∷ []
   unfolding sameSource
   inner-right j u l n6 =
       let s = stands j u l in
@@ -173,8 +174,8 @@ module _ (n : ℕ) (ts ws : List ℕ) (A : Clear n ts ws) where
       let o = inside6 R n ws (marked n ts ws A) p c (s .within) (s .goes-out) (λ q. n6 (sym (s .named) ∙ q)) in
       let bit : bitOf right (at (serviceOf n ts ws) j) ≡ cond (eqb (source (edgeHere n ts ws A (turnBack R p))) (from ts p)) 1 0 =
       byte-bit right j u l ∙ rw (e, s .starts) in
-      ap (innerBack right n (referencesOf n ts ws) (at (serviceOf n ts ws) j)) (sym (s .named)) ∙
-      (right-back R (colours n ts ws A) n (referencesOf n ts ws) (edge-is-edge n ts ws A) reads-right p c (at (serviceOf n ts ws) j) (s .within) o (s .goes-out)
+      ap (innerBack right n (frontsIn (referencesOf n ts ws)) (at (serviceOf n ts ws) j)) (sym (s .named)) ∙
+      (right-back R (colours n ts ws A) n (frontsIn (referencesOf n ts ws)) (edge-is-edge n ts ws A) reads-right p c (at (serviceOf n ts ws) j) (s .within) o (s .goes-out)
       (byte-few j u l) bit ∙ ap (λ x. 0 ∷ x ∷ []) (sym e))
 
   -- The outer triangle: its third corners, and the edges between anchors.
@@ -228,7 +229,7 @@ module _ (n : ℕ) (ts ws : List ℕ) (A : Clear n ts ws) where
   right-of-6 = rw (e6 (surface n ts ws A) n ws (marked n ts ws A), third-0-2) joins-2-1
 
   pub back-answer : (h : Hand) (j : ℕ) → used j ≡ true → j < 3 * n
-      → backAnswer h n (referencesOf n ts ws) (serviceOf n ts ws) j ≡ 0 ∷ back h (third ts) ws j ∷ []
+      → backAnswer h n (frontsIn (referencesOf n ts ws)) (bytesIn (serviceOf n ts ws)) j ≡ 0 ∷ back h (third ts) ws j ∷ []
   unfolding backAnswer outerBack
   back-answer left j u l =
       byBool (eqb j 3) (λ t. rw t (ap (λ x. 0 ∷ x ∷ []) (sym (ap (back left (third ts) ws) (eqb-true j 3 t) ∙ left-of-3))))
@@ -253,7 +254,7 @@ module _ (n : ℕ) (ts ws : List ℕ) (A : Clear n ts ws) where
   pub record TargetFound (j : ℕ) : Type 0 where
     pub reads : ℕ
     pub few : reads < neighbours n (third ts) (target ws j)
-    pub answer : targetAnswer n (referencesOf n ts ws) j ≡ 0 ∷ target ws j ∷ reads ∷ []
+    pub answer : targetAnswer n (frontsIn (referencesOf n ts ws)) j ≡ 0 ∷ target ws j ∷ reads ∷ []
 
   pub target-found : (j : ℕ) → used j ≡ true → j < 3 * n → TargetFound j
   unfolding targetAnswer
@@ -265,9 +266,9 @@ module _ (n : ℕ) (ts ws : List ℕ) (A : Clear n ts ws) where
       let M = marked n ts ws A in
       let refs : List ℕ = referencesOf n ts ws in
       let stop = stopping-side R n ws M p c (s .within) (s .goes-out) in
-      let r : ℕ = steps R (colours n ts ws A) (goOn refs) reads-left (degree R (from ts (next p))) c (3 * from ts p + c) in
-      let w : Walked R (colours n ts ws A) (goOn refs) reads-left p c r =
-      walked R (colours n ts ws A) (goOn refs) reads-left p c (s .within) (s .goes-out) (stop .0) (stop .1) (stop .2) (stop .3) in
+      let r : ℕ = steps R (colours n ts ws A) (frontsIn refs left) reads-left (degree R (from ts (next p))) c (3 * from ts p + c) in
+      let w : Walked R (colours n ts ws A) (frontsIn refs left) reads-left p c r =
+      walked R (colours n ts ws A) (frontsIn refs left) reads-left p c (s .within) (s .goes-out) (stop .0) (stop .1) (stop .2) (stop .3) in
       let d : degree R (from ts (next p)) < n = degree-less R n ws M (from ts (next p)) (M .corner (next p) (R .next-in p (s .within))) in
       let b = w .short in
       let k = sides-neighbours (from ts (next p)) in
@@ -276,8 +277,8 @@ module _ (n : ℕ) (ts ws : List ℕ) (A : Clear n ts ws) where
         reads = r;
         few = omega arith;
         answer =
-            ap (λ x. walk n refs c (n - 2) x 0) (sym (s .named)) ∙
-            (walk-stops n refs c (n - 2) (3 * from ts p + c) (from ts (next p)) r (omega arith) (w .on)
+            ap (λ x. walk n (frontsIn refs) c (n - 2) x 0) (sym (s .named)) ∙
+            (walk-stops n (frontsIn refs) c (n - 2) (3 * from ts p + c) (from ts (next p)) r (omega arith) (w .on)
             (λ i g. ap (isEdge n) (w .stands (suc i) (omega arith)) ∙ edge-is-edge n ts ws A (iterate (turnBack R) (suc i) (twin ts p)) (turnsBack-in R (suc i) (twin ts p) (pairs n ts ws A .twin-in p (s .within))))
             (w .stops) ∙ ap (λ x. 0 ∷ x ∷ r ∷ []) (s .ends));
       }

@@ -13,18 +13,21 @@ use borrow.Author.Tests.{lt-ltb, eq-eqb}
 use Rattle.mesh.specs.Limits.{outOfRange, referencesLength, serviceLength}
 use Rattle.mesh.specs.Sides.{next, from, to, third}
 use Rattle.mesh.specs.Wood.{bare, source, target, used, isEdge, labelOf, edgeBy, edgeAt}
-use Rattle.mesh.specs.Verdict.{verdict}
+use Rattle.mesh.specs.Verdict.{verdict, Clear}
 use Rattle.mesh.specs.Mesh.{Triangle, Edge, Joins}
 use Rattle.mesh.specs.Array.{Hand, left, right, cornerOn, front, back, referencesOf, serviceOf}
-use Rattle.mesh.specs.Reading.{asked, frontAnswer, backAnswer, targetAnswer, readSource, readFront, readBack, readTargetOf, readTarget, readLeftFront, readRightFront, readLeftBack, readRightBack}
+use Rattle.mesh.specs.Reading.{frontsIn, bytesIn, asked, frontAnswer, backAnswer, targetAnswer, readSource, readFront, readBack, readTargetOf, readTarget, readLeftFront, readRightFront, readLeftBack, readRightBack}
+use Rattle.mesh.proofs.Ladder.{free}
 use Rattle.mesh.proofs.Tests.{and-of}
-use Rattle.mesh.proofs.Paired.{twin, third-is, twin-from, twin-to, to-in, next-within, turn, turn-in, turn-from, turn-to}
+use Rattle.mesh.specs.Paired.{twin, turn}
+use Rattle.mesh.proofs.Paired.{third-is, twin-from, twin-to, to-in, next-within, turn-in, turn-from, turn-to}
 use Rattle.mesh.proofs.TurnRule.{byLabel}
-use Rattle.mesh.proofs.Verdict.{Clear, verdict-clear, clear-verdict}
+use Rattle.mesh.proofs.Verdict.{verdict-clear, clear-verdict}
 use Rattle.theorems.specs.Demand2.{AnswersEdgeJoining, AnswersAsTriangles}
 use Rattle.mesh.proofs.Labels.{label-is-out, label-is-into}
 use Rattle.theorems.proofs.Marked.{label, all-labelled}
 use Rattle.theorems.proofs.Accepted.{pairs, surface, marked, used-low}
+use Rattle.theorems.proofs.Acceptance.Corners.{triangle-third}
 use Rattle.theorems.proofs.Acceptance.Edges.{edge-used, used-edge}
 use Rattle.theorems.proofs.Acceptance.Meshes.{accepted-is-mesh}
 use Rattle.theorems.proofs.Fronts.{references-length, service-length}
@@ -33,7 +36,7 @@ use Rattle.theorems.proofs.Answers.{stands, front-answer, back-answer, 
 module _ (n : ℕ) (ts ws : List ℕ) (A : Clear n ts ws) where
   -- the size and the lengths are right, so a question comes to its answer
   in-range : outOfRange n ≡ false
-  in-range = A .no1
+  in-range = free A 1
 
   asked-right : (j k : ℕ) (lengths : Bool) (answer : List ℕ) → lengths ≡ true → isEdge n j ≡ true → asked n lengths (isEdge n j) k answer ≡ answer
   asked-right j k lengths answer h e = rw (in-range, h, e)
@@ -53,10 +56,6 @@ module _ (n : ℕ) (ts ws : List ℕ) (A : Clear n ts ws) where
         record { position = p; within = s .within; first-is = s .starts; second-is = s .ends; third-is = refl },
         record { position = q; within = P .twin-in p (s .within); first-is = twin-from n ts P p (s .within) ∙ s .ends; second-is = twin-to n ts P p (s .within) ∙ s .starts; third-is = refl },
       )
-
-  -- a triangle's third corner is the one that the search finds
-  corner-is : (a b c : ℕ) → Triangle ts a b c → third ts a b ≡ c
-  corner-is a b c t = third-is n ts (pairs n ts ws A) a b (t .position) (t .within) (t .first-is) (t .second-is) ∙ t .third-is
 
   -- the edge that joins the two ends of a side, seen from either end
   ends-joined : (a b : ℕ) → a < n → b < n → labelOf ws a b ≢ bare
@@ -108,8 +107,8 @@ module _ (n : ℕ) (ts ws : List ℕ) (A : Clear n ts ws) where
 
     corner-on : (h : Hand) → cornerOn h (third ts) (source j) (target ws j) ≡ corner h
     unfolding corner
-    corner-on left = corner-is (source j) (target ws j) w tl
-    corner-on right = corner-is (target ws j) (source j) z tr
+    corner-on left = triangle-third n ts (pairs n ts ws A) (source j) (target ws j) w tl
+    corner-on right = triangle-third n ts (pairs n ts ws A) (target ws j) (source j) z tr
 
     right-lengths : (eqb (length refs) (referencesLength n) ≡ true) × (eqb (length service) (serviceLength n) ≡ true)
     unfolding refs service
@@ -119,14 +118,14 @@ module _ (n : ℕ) (ts ws : List ℕ) (A : Clear n ts ws) where
     fronts : (h : Hand) → readFront h n refs j ≡ 0 ∷ edgeAt ws (target ws j) (corner h) ∷ []
     unfolding readFront refs front
     fronts h =
-        asked-right j 14 (eqb (length (referencesOf n ts ws)) (referencesLength n)) (frontAnswer h n (referencesOf n ts ws) j) (right-lengths .0) (edge-test j e) ∙
+        asked-right j 14 (eqb (length (referencesOf n ts ws)) (referencesLength n)) (frontAnswer h n (frontsIn (referencesOf n ts ws)) j) (right-lengths .0) (edge-test j e) ∙
         (front-answer n ts ws A h j u (e .0) ∙ ap (λ x. 0 ∷ edgeAt ws (target ws j) x ∷ []) (corner-on h))
 
     backs : (h : Hand) → readBack h n refs service j ≡ 0 ∷ edgeAt ws (source j) (corner h) ∷ []
     unfolding readBack refs service back
     backs h =
         asked-right j 14 (eqb (length (referencesOf n ts ws)) (referencesLength n) && eqb (length (serviceOf n ts ws)) (serviceLength n))
-        (backAnswer h n (referencesOf n ts ws) (serviceOf n ts ws) j) (and-of _ _ (right-lengths .0) (right-lengths .1)) (edge-test j e) ∙
+        (backAnswer h n (frontsIn (referencesOf n ts ws)) (bytesIn (serviceOf n ts ws)) j) (and-of _ _ (right-lengths .0) (right-lengths .1)) (edge-test j e) ∙
         (back-answer n ts ws A h j u (e .0) ∙ ap (λ x. 0 ∷ edgeAt ws (source j) x ∷ []) (corner-on h))
 
     -- a side from a triangle's second corner to its third, and one from its first to its third
@@ -149,7 +148,7 @@ module _ (n : ℕ) (ts ws : List ℕ) (A : Clear n ts ws) where
           source-is = rw (in-range, edge-test j e);
           reads = f .reads;
           target-is =
-              asked-right j 14 (eqb (length (referencesOf n ts ws)) (referencesLength n)) (targetAnswer n (referencesOf n ts ws) j) (right-lengths .0) (edge-test j e) ∙ f .answer;
+              asked-right j 14 (eqb (length (referencesOf n ts ws)) (referencesLength n)) (targetAnswer n (frontsIn (referencesOf n ts ws)) j) (right-lengths .0) (edge-test j e) ∙ f .answer;
           few-reads = omega arith;
           left-front = along (source j) (target ws j) w (readFront left n (referencesOf n ts ws) j) tl (fronts left);
           right-front = across (target ws j) (source j) z (readFront right n (referencesOf n ts ws) j) tr (fronts right);

@@ -15,9 +15,10 @@ use Rattle.mesh.specs.Wood.{Label, out, source, target, used, isEdge, labelOf, 
 use Rattle.mesh.specs.Array.{Hand, left, right, frontPlace, handAt, front, back, referenceAt, sameSource, serviceAt, referencesBy, referencesOf, serviceOf}
 use Rattle.mesh.proofs.Tests.{and-of}
 use Rattle.mesh.proofs.Lists.{getD-tabulate, length-tabulate}
-use Rattle.mesh.proofs.Paired.{twin, third-is, twin-from, twin-to}
+use Rattle.mesh.specs.Paired.{twin}
+use Rattle.mesh.proofs.Paired.{third-is, twin-from, twin-to}
 use Rattle.mesh.proofs.TurnRule.{byLabel}
-use Rattle.mesh.proofs.Verdict.{Clear}
+use Rattle.mesh.specs.Verdict.{Clear}
 use Rattle.theorems.proofs.Rotation.{turn, turnBack, turn-from, turnBack-from, to-twin}
 use Rattle.theorems.proofs.Coloured.{Coloured, edge}
 use Rattle.mesh.proofs.Labels.{label-is-out, label-is-into}

@@ -13,7 +13,8 @@ use Rattle.mesh.specs.Mesh.{Triangle, Side, Round, here, onward}
 use Rattle.mesh.proofs.Count.{pigeon, count-all}
 use Rattle.mesh.proofs.Iterate.{iterate-zero, iterate-step, iterate-suc, least, least-apart}
 use Rattle.mesh.proofs.Positions.{sideAt-law, sideAt-le}
-use Rattle.mesh.proofs.Paired.{Paired, twin, twin-from, twin-to, turn, to-in, simple, third-is, turn-in, turn-from, turn-to, turns-in, turns-from, turns-to}
+use Rattle.mesh.specs.Paired.{Paired, twin, turn}
+use Rattle.mesh.proofs.Paired.{twin-from, twin-to, to-in, simple, third-is, turn-in, turn-from, turn-to, turns-in, turns-from, turns-to}
 use Rattle.mesh.proofs.Round.{turn-steps, turn-closes, turn-once}
 
 -- a side is there exactly when it is found

@@ -12,12 +12,11 @@ use Rattle.mesh.specs.Search.{some}
 use Rattle.mesh.specs.Limits.{at, unusedMark}
 use Rattle.mesh.specs.Sides.{third, isNeighbour}
 use Rattle.mesh.specs.Wood.{source, colour, target, anchorTargets, used, samePair}
-use Rattle.mesh.specs.Verdict.{anchorEdgeFault, targetFault, woodFault, joinFault, pairFault, edgeFault, anchorFault}
+use Rattle.mesh.specs.Verdict.{anchorEdgeFault, targetFault, woodFault, joinFault, pairFault, edgeFault, anchorFault, Clear}
 use Rattle.mesh.specs.Mesh.{Side, Edge, Joins}
 use Rattle.mesh.proofs.Tests.{byBool, clash, and-true, and-false-left, and-false-right, or-true, or-left, or-none, by-order}
 use Rattle.mesh.proofs.Search.{none-some}
-use Rattle.mesh.proofs.Paired.{Paired}
-use Rattle.mesh.proofs.Verdict.{Clear}
+use Rattle.mesh.specs.Paired.{Paired}
 use Rattle.theorems.proofs.Accepted as accepted
 use Rattle.theorems.proofs.Acceptance.Corners.{found-side}
 use Rattle.theorems.proofs.Acceptance.Table.{of-neighbour}

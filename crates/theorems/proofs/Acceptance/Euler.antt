@@ -13,13 +13,14 @@ use borrow.Author.Tests.{ltb-true, ltb-false, lt-ltb, le-ltb, le-leb}
 use Rattle.mesh.specs.Search.{count}
 use Rattle.mesh.specs.Sides.{from, to}
 use Rattle.mesh.specs.Wood.{used, isEdge, labelOf}
-use Rattle.mesh.specs.Verdict.{verdict}
+use Rattle.mesh.specs.Verdict.{verdict, Clear}
 use Rattle.mesh.specs.Mesh.{Side, Edge, Joins}
 use Rattle.mesh.proofs.Tests.{byBool, or-left}
 use Rattle.mesh.proofs.Count.{count-cong, count-inj}
-use Rattle.mesh.proofs.Paired.{Paired, twin, twin-from, twin-to, twin-2}
+use Rattle.mesh.specs.Paired.{Paired, twin}
+use Rattle.mesh.proofs.Paired.{twin-from, twin-to, twin-2}
 use Rattle.mesh.proofs.TurnRule.{byLabel}
-use Rattle.mesh.proofs.Verdict.{Clear, verdict-clear}
+use Rattle.mesh.proofs.Verdict.{verdict-clear}
 use Rattle.theorems.specs.Euler.{Euler}
 use Rattle.mesh.proofs.Labels.{label-is-out, label-is-into}
 use Rattle.theorems.proofs.Marked.{label, all-labelled}

@@ -9,11 +9,15 @@ use native.Mathlib.Omega.{arith}
 use Rattle.mesh.specs.Limits.{unusedMark}
 use Rattle.mesh.specs.Sides.{next, from, third, firstNeighbour}
 use Rattle.mesh.specs.Wood.{source, target, edgeOf, turnRule, labelsRound}
-use Rattle.mesh.specs.Verdict.{verdict}
+use Rattle.mesh.specs.Ladder.{end, past}
+use Rattle.mesh.specs.Verdict.{verdict, Clear}
 use Rattle.mesh.specs.Mesh.{Triangle, Side, Edge, Mesh}
+use Rattle.mesh.proofs.Limits.{range-in}
+use Rattle.mesh.proofs.Ladder.{free}
 use Rattle.mesh.proofs.Positions.{next-3}
-use Rattle.mesh.proofs.Paired.{Paired, simple, next-within}
-use Rattle.mesh.proofs.Verdict.{Clear, verdict-clear, clear-verdict}
+use Rattle.mesh.specs.Paired.{Paired}
+use Rattle.mesh.proofs.Paired.{simple, next-within}
+use Rattle.mesh.proofs.Verdict.{verdict-clear, clear-verdict, clear-of}
 use Rattle.theorems.proofs.Acceptance.Corners.{found-side, reversed, side-triangle}
 use Rattle.theorems.proofs.Accepted as accepted
 use Rattle.theorems.proofs.Acceptance.Table as table
@@ -31,7 +35,7 @@ clear-mesh n ts ws A =
     let outer : Triangle ts 0 2 1 = subst (Triangle ts 0 2) (o .1) (side-triangle n ts P 0 2 (found-side ts 0 2 (o .0))) in
     let joins = edges.edge-joins n ts ws A in
     let inner : (e : ℕ) → 9 ≤ e → e < 3 * n → Side ts (source e) (target ws e) = (λ e h l. joins e (l, inr (inr (inr h)))) in
-    let rule = paths.paths-ruled n ws (A .wood .no13) in
+    let rule = paths.paths-ruled n ws (free A 13) in
     record {
       enough = accepted.enough n ts ws A;
       not-too-many = accepted.not-too-many n ts ws A;
@@ -42,8 +46,8 @@ clear-mesh n ts ws A =
       side-once = simple n ts P;
       reverse = reversed n ts P;
       outer = outer;
-      in-triangle = λ v l. (firstNeighbour n (third ts) v, table.in-triangle n ts P few (A .table .no8) v l);
-      one-turn = table.one-turn n ts P few (A .table .no8);
+      in-triangle = λ v l. (firstNeighbour n (third ts) v, table.in-triangle n ts P few (free A 8) v l);
+      one-turn = table.one-turn n ts P few (free A 8);
       anchor-edges = accepted.anchor-edges n ts ws A;
       targets = accepted.targets n ts ws A;
       joins = joins;
@@ -77,25 +81,19 @@ mesh-clear n ts ws M =
     let most = M .not-too-many in
     let few : n ≤ unusedMark = omega arith in
     let sides = table.pairs-right n ts P in
-    record {
-      no1 = table.sizes-right n (M .enough) (M .not-too-many);
-      no2 = table.lengths-right n ts ws (M .triangles-length) (M .wood-length);
-      table = record {
-        no3 = sides .0;
-        no4 = sides .1;
-        no5 = sides .2;
-        no6 = sides .3;
-        no7 = table.outer-right n ts P few (M .outer);
-        no8 = table.turns-right n ts P few (M .in-triangle) (M .one-turn);
-      };
-      wood = record {
-        no9 = edges.wood-right n ws (M .anchor-edges) (M .targets);
-        no10 = edges.edges-right n ts ws P few (M .joins) (M .pair-once);
-        no11 = edges.anchors-right n ws (M .anchor-rule);
-        no12 = turns.turns-right n ts ws (keeps P);
-        no13 = paths.paths-right n ws (M .targets) (M .path-rule);
-      };
-    }
+    clear-of n ts ws (range-in n (record { enough = M .enough; not-too-many = M .not-too-many }))
+    (table.lengths-right n ts ws (M .triangles-length) (M .wood-length))
+    (past (sides .0)
+    (past (sides .1)
+    (past (sides .2)
+    (past (sides .3)
+    (past (table.outer-right n ts P few (M .outer))
+    (past (table.turns-right n ts P few (M .in-triangle) (M .one-turn)) end))))))
+    (past (edges.wood-right n ws (M .anchor-edges) (M .targets))
+    (past (edges.edges-right n ts ws P few (M .joins) (M .pair-once))
+    (past (edges.anchors-right n ws (M .anchor-rule))
+    (past (turns.turns-right n ts ws (keeps P))
+    (past (paths.paths-right n ws (M .targets) (M .path-rule)) end)))))
   where
     keeps : Paired n ts → (v : ℕ) → 3 ≤ v → v < n → turnRule 0 (labelsRound n (third ts) ws v) ≡ true
     keeps P v h l =

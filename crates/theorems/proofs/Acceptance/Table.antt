@@ -16,15 +16,12 @@ use Rattle.mesh.specs.Mesh.{Triangle, Side, Round, Mesh}
 use Rattle.mesh.proofs.Tests.{byBool, and-false-left, and-false-right, or-none}
 use Rattle.mesh.proofs.Search.{first-law, some-of, none-some, some-is}
 use Rattle.mesh.proofs.Positions.{sideAt-only}
-use Rattle.mesh.proofs.Paired.{Paired, twin, neighbour-side, side-neighbour}
+use Rattle.mesh.specs.Paired.{Paired, twin}
+use Rattle.mesh.proofs.Paired.{neighbour-side, side-neighbour}
 use Rattle.mesh.proofs.Round as round
 use Rattle.theorems.proofs.Acceptance.Corners.{side-found, found-side, short-of, ends-below, triangle-third, sides-on, round-of, of-round, steps-to}
 
--- 1, 2: the sizes
-pub sizes-right : (n : ℕ) → fewestVertices ≤ n → n ≤ mostVertices → outOfRange n ≡ false
-unfolding outOfRange
-sizes-right n a b = or-none (ltb n fewestVertices) (ltb mostVertices n) (le-ltb n fewestVertices a) (le-ltb mostVertices n b)
-
+-- 2: the lengths
 pub lengths-right : (n : ℕ) (ts ws : List ℕ) → length ts ≡ trianglesLength n → length ws ≡ woodLength n → wrongLengths n ts ws ≡ false
 unfolding wrongLengths
 lengths-right n ts ws a b = rw (eq-eqb (length ts) (trianglesLength n) a, eq-eqb (length ws) (woodLength n) b)

@@ -18,7 +18,7 @@ use Rattle.mesh.specs.Mesh.{Triangle, Side, Linked, Apart, Once, AllInto, TurnR
 use Rattle.mesh.proofs.Tests.{byBool, clash, and-true, and-false-left, and-false-right, by-order}
 use Rattle.mesh.proofs.Search.{none-some}
 use Rattle.mesh.proofs.Iterate.{iterate-zero, iterate-step}
-use Rattle.mesh.proofs.Paired.{Paired}
+use Rattle.mesh.specs.Paired.{Paired}
 use Rattle.mesh.proofs.TurnRule.{byLabel}
 use Rattle.mesh.proofs.Labels.{label-is-out, label-is-into}
 use Rattle.theorems.proofs.Acceptance.Corners.{triangle-third, side-triangle, sides-on, Turn, turn-length}

@@ -9,10 +9,12 @@ use borrow.Author.Tests.{eq-eqb}
 use Rattle.mesh.specs.Search.{some}
 use Rattle.mesh.specs.Limits.{trianglesLength, woodLength}
 use Rattle.mesh.specs.Sides.{third}
-use Rattle.mesh.specs.Verdict.{wrongLengths, outerFault, turnFault}
+use Rattle.mesh.specs.Ladder.{end, past}
+use Rattle.mesh.specs.Verdict.{wrongLengths, outerFault, turnFault, Clear, WoodClear}
 use Rattle.mesh.specs.Array.{referencesBy, referencesOf}
 use Rattle.mesh.specs.Rebuild.{trianglesFrom}
-use Rattle.mesh.proofs.Verdict.{Clear, WoodClear}
+use Rattle.mesh.proofs.Ladder.{free}
+use Rattle.mesh.proofs.Verdict.{wood-part, clear-of}
 use Rattle.theorems.proofs.Accepted.{pairs, wood-length}
 use Rattle.theorems.proofs.Rebuilding.Written.{refs}
 use Rattle.theorems.proofs.Rebuilding.Table.{origin, table-length, table-permuted}
@@ -40,19 +42,14 @@ module _ (n : ℕ) (ts ws : List ℕ) (A : Clear n ts ws) where
       let π : ℕ → ℕ = origin n ts ws A in
       let P = pairs n ts ws A in
       let S = table-permuted n ts ws A in
-      record {
-        no1 = A .no1;
-        no2 = right-lengths;
-        table = record {
-          no3 = permuted-3 n ts table π P S;
-          no4 = permuted-4 n ts table π P S;
-          no5 = permuted-5 n ts table π P S;
-          no6 = permuted-6 n ts table π P S;
-          no7 = ap outerFault table-third ∙ A .table .no7;
-          no8 = ap (λ x. some (turnFault n x) n) table-third ∙ A .table .no8;
-        };
-        wood = subst (λ x. WoodClear n x ws) (sym table-third) (A .wood);
-      }
+      clear-of n table ws (free A 1) right-lengths
+      (past (permuted-3 n ts table π P S)
+      (past (permuted-4 n ts table π P S)
+      (past (permuted-5 n ts table π P S)
+      (past (permuted-6 n ts table π P S)
+      (past (ap outerFault table-third ∙ free A 7)
+      (past (ap (λ x. some (turnFault n x) n) table-third ∙ free A 8) end))))))
+      (subst (λ x. WoodClear n x ws) (sym table-third) (wood-part n ts ws A))
 
   pub table-references : referencesOf n table ws ≡ refs n ts ws A
   table-references = same-references n ts table ws table-third

@@ -15,7 +15,8 @@ use Rattle.mesh.proofs.Tests.{byBool}
 use Rattle.mesh.proofs.Search.{none-some}
 use Rattle.mesh.proofs.Count.{onto}
 use Rattle.mesh.proofs.Positions.{sideAt-law, sideAt-le, sideAt-only, third-at, third-none}
-use Rattle.mesh.proofs.Paired.{Paired, twin, simple, twin-from, twin-to, next-within}
+use Rattle.mesh.specs.Paired.{Paired, twin}
+use Rattle.mesh.proofs.Paired.{simple, twin-from, twin-to, next-within}
 
 pub record Permuted (ts ts' : List ℕ) (π : ℕ → ℕ) : Type 0 where
   pub same-length : length ts' ≡ length ts

@@ -14,7 +14,7 @@ use Rattle.mesh.specs.Rebuild.{vertexOf, rebuiltTarget, rebuiltWood}
 use Rattle.mesh.proofs.Tests.{byBool, clash, or-false, or-true}
 use Rattle.mesh.proofs.Search.{every-at}
 use Rattle.mesh.proofs.Lists.{tabulate-is}
-use Rattle.mesh.proofs.Verdict.{Clear}
+use Rattle.mesh.specs.Verdict.{Clear}
 use Rattle.theorems.proofs.Accepted.{marked, wood-length}
 use Rattle.theorems.proofs.Answers.{target-found}
 

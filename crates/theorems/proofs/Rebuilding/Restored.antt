@@ -7,7 +7,8 @@ use native.Mathlib.Omega.{arith}
 use Rattle.mesh.specs.Limits.{unusedMark}
 use Rattle.mesh.specs.Array.{referencesOf}
 use Rattle.mesh.specs.Rebuild.{rebuiltTriangles, trianglesFrom}
-use Rattle.mesh.proofs.Verdict.{Clear, clear-verdict}
+use Rattle.mesh.specs.Verdict.{Clear}
+use Rattle.mesh.proofs.Verdict.{clear-verdict}
 use Rattle.theorems.specs.SameMesh.{SameTriangles, GivenBack}
 use Rattle.theorems.proofs.Accepted.{pairs, few}
 use Rattle.theorems.proofs.Rebuilding.Again.{table, table-third, table-clear, table-references}

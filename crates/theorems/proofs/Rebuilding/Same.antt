@@ -9,7 +9,8 @@ use Rattle.mesh.specs.Limits.{unusedMark}
 use Rattle.mesh.specs.Sides.{next, sideAt, third}
 use Rattle.mesh.specs.Mesh.{Triangle}
 use Rattle.mesh.proofs.Positions.{sideAt-law, third-at}
-use Rattle.mesh.proofs.Paired.{Paired, next-within, third-is, neighbour-side}
+use Rattle.mesh.specs.Paired.{Paired}
+use Rattle.mesh.proofs.Paired.{next-within, third-is, neighbour-side}
 use Rattle.theorems.specs.SameMesh.{SameTriangles}
 
 carried : (n : ℕ) (ts us : List ℕ) → Paired n ts → Paired n us → n ≤ unusedMark → third ts ≡ third us

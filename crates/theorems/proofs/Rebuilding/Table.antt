@@ -22,7 +22,7 @@ use Rattle.mesh.proofs.Search.{first-law, first-le}
 use Rattle.mesh.proofs.Count.{count-inj, count-all}
 use Rattle.mesh.proofs.Positions.{next-div, next-mod, next-3, same-digits}
 use Rattle.mesh.proofs.Paired.{next-within}
-use Rattle.mesh.proofs.Verdict.{Clear}
+use Rattle.mesh.specs.Verdict.{Clear}
 use Rattle.theorems.proofs.Accepted.{surface, pairs, marked, enough, triangles-length, whole}
 use Rattle.theorems.proofs.Rebuilding.Chunks.{nth, chunks-length, chunk-at}
 use Rattle.theorems.proofs.Rebuilding.Lowest.{place-inj, place-in, one-lowest, only-lowest}

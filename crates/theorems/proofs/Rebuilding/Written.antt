@@ -17,8 +17,9 @@ use Rattle.mesh.specs.Array.{Hand, left, right, frontPlace, handAt, cornerOn, f
 use Rattle.mesh.specs.Rebuild.{otherEnd, cornerBeside, isLowest, triangleBeside, writtenAt}
 use Rattle.mesh.proofs.Tests.{byBool, and-true}
 use Rattle.mesh.proofs.Positions.{next-3, sideAt-law}
-use Rattle.mesh.proofs.Paired.{twin, turn, turn-in, turn-from, turn-to, next-within, to-in, third-is}
-use Rattle.mesh.proofs.Verdict.{Clear}
+use Rattle.mesh.specs.Paired.{twin, turn}
+use Rattle.mesh.proofs.Paired.{turn-in, turn-from, turn-to, next-within, to-in, third-is}
+use Rattle.mesh.specs.Verdict.{Clear}
 use Rattle.mesh.proofs.TurnRule.{byLabel}
 use Rattle.mesh.proofs.Labels.{label-is-out, label-is-into}
 use Rattle.theorems.proofs.Marked.{label, all-labelled, is-out, is-into}
