@@ -25,6 +25,11 @@ pub next-mod : (p : ℕ) → next p % 3 ≡ (p + 1) % 3
 unfolding next
 next-mod p = omega arith
 
+-- the corner before
+pub next-next : (p : ℕ) → next (next p) ≡ 3 * (p / 3) + (p + 2) % 3
+unfolding next
+next-next p = omega arith
+
 mod-step : (a b : ℕ) → a % 3 ≡ b % 3 → (a + 1) % 3 ≡ (b + 1) % 3
 mod-step a b e = omega arith
 

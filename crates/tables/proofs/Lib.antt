@@ -1,0 +1,4 @@
+-- Laws for whoever proves something over the shared tables.
+pub mod EdgeLaws
+pub mod TriangleLaws
+pub mod OutcomeLaws
