@@ -2,3 +2,4 @@
 pub mod EdgeLaws
 pub mod TriangleLaws
 pub mod OutcomeLaws
+pub mod CheckedLaws

@@ -2,3 +2,4 @@
 pub mod Outcome
 pub mod Corners
 pub mod Turning
+pub mod Checked
