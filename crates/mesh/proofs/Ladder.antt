@@ -8,7 +8,7 @@ use mathlib.Core.Logic.{_≢_, _↔_}
 use lib.Dec.{eqb}
 use borrow.Author.Tests.{eqb-true, eqb-false, eq-eqb, ne-eqb, not-true}
 use Rattle.mesh.specs.Ladder.{Rung, rung, firstOf, applies, numbers, NoneApplies, end, past, NoneBefore, here, past-one}
-use Rattle.mesh.proofs.Tests.{byBool, and-true, clash, or-left, or-right}
+use Rattle.mesh.proofs.Tests.{byBool, clash, and-true, and-of, or-true, or-left, or-right}
 
 -- the top rung, where its fault applies and where it does not
 module _ (k : ℕ) (fault : Bool) (rest : List Rung) where
@@ -109,3 +109,29 @@ first-among [] z = absurd (z refl)
 first-among (rung k fault ∷ l) z =
     byBool fault (λ t. rw t (or-left (eqb k k) (among k (numbers l)) (eq-eqb k k refl)))
     (λ t. rw t (or-right (eqb k (firstOf l)) (among (firstOf l) (numbers l)) (first-among l (rw t at z))))
+
+-- number i stands before number k
+unfoldable pub earlier : ℕ → ℕ → List ℕ → Bool
+earlier i k [] = false
+earlier i k (m ∷ ms) = not (eqb m k) && (eqb m i || earlier i k ms)
+
+-- where none before k applies, no number that stands before it does
+pub free-before : {k : ℕ} {l : List Rung} → NoneBefore k l → (i : ℕ) → earlier i k (numbers l) ≡ true → applies i l ≡ false
+unfolding earlier
+free-before {k} (here {fault} {rest}) i e =
+    clash (not (eqb k k)) (and-true (not (eqb k k)) (eqb k i || earlier i k (numbers rest)) e .0) (rw (eq-eqb k k refl))
+free-before {k} (past-one {m} {fault} {rest} f h) i e =
+    let t = and-true (not (eqb m k)) (eqb m i || earlier i k (numbers rest)) e .1 in
+    byBool (eqb m i) (λ u. rw (u, f)) (λ u. rw u (free-before h i (rw u at t)))
+
+-- what stands before a number that stands before k stands before k
+pub earlier-through : (i j k : ℕ) (ms : List ℕ) → earlier i j ms ≡ true → earlier j k ms ≡ true → earlier i k ms ≡ true
+unfolding earlier
+earlier-through i j k [] a b = a
+earlier-through i j k (m ∷ ms) a b =
+    let p = and-true (not (eqb m j)) (eqb m i || earlier i j ms) a in
+    let q = and-true (not (eqb m k)) (eqb m j || earlier j k ms) b in
+    let j-later : earlier j k ms ≡ true = rw (not-true (eqb m j) (p .0)) at (q .1) in
+    and-of (not (eqb m k)) (eqb m i || earlier i k ms) (q .0)
+    (or-true (eqb m i) (earlier i j ms) (p .1) (λ t. or-left (eqb m i) (earlier i k ms) t)
+    (λ t. or-right (eqb m i) (earlier i k ms) (earlier-through i j k ms t j-later)))

@@ -8,5 +8,7 @@ pub mod Edges
 pub mod Paths
 pub mod Turns
 pub mod Labels
+pub mod Rules
 pub mod Meshes
+pub mod Numbers
 pub mod Euler

@@ -14,6 +14,7 @@ use Rattle.mesh.specs.Limits.{at, unusedMark, fewestVertices, mostVertices, out
 use Rattle.mesh.specs.Sides.{next, from, to, sideAt, third, isNeighbour, turnLength}
 use Rattle.mesh.specs.Wood.{Label, out, source, target, edgeOf, anchorTargets, used, labelOf, samePair, turnRule, labelsRound}
 use Rattle.mesh.specs.Verdict.{wrongLengths, outerFault, anchorEdgeFault, targetFault, woodFault, joinFault, pairFault, edgeFault, anchorFault, turnRuleFault, Clear}
+use Rattle.mesh.specs.Mesh.{AnchorEdges, TargetsBelow, AnchorRule}
 use Rattle.mesh.proofs.Limits.{in-range}
 use Rattle.mesh.proofs.Ladder.{free}
 use Rattle.mesh.proofs.Tests.{byBool, clash, and-true, and-fails, or-false, or-true, or-right, by-order}
@@ -25,6 +26,10 @@ use Rattle.mesh.proofs.Paired.{paired, next-within, simple, third-is, twin-2, t
 use Rattle.mesh.proofs.Round.{turn-closes, turn-steps, turn-meets, turn-meets-once}
 use Rattle.mesh.proofs.Labels.{sees-out}
 use Rattle.mesh.proofs.TurnRule.{Step, rule-steps}
+use Rattle.theorems.proofs.Acceptance.Table.{tied-2}
+use Rattle.theorems.proofs.Acceptance.Edges.{tied-9, tied-11, pair-same, pair-back}
+use Rattle.theorems.proofs.Acceptance.Edges as edges
+use Rattle.theorems.proofs.Acceptance.Turns.{turn-kept}
 use Rattle.theorems.proofs.Rotation.{Rotation}
 use Rattle.theorems.proofs.Marked.{Marked}
 
@@ -36,10 +41,7 @@ module _ (n : ℕ) (ts ws : List ℕ) (A : Clear n ts ws) where
   not-too-many = in-range n (free A 1) .not-too-many
 
   lengths : (length ts ≡ trianglesLength n) × (length ws ≡ woodLength n)
-  unfolding wrongLengths
-  lengths =
-      let t = and-true (eqb (length ts) (trianglesLength n)) (eqb (length ws) (woodLength n)) (not-false _ (free A 2)) in
-      (eqb-true (length ts) (trianglesLength n) (t .0), eqb-true (length ws) (woodLength n) (t .1))
+  lengths = tied-2 n ts ws .0 (free A 2)
 
   pub triangles-length : length ts ≡ trianglesLength n
   triangles-length = lengths .0
@@ -80,21 +82,12 @@ module _ (n : ℕ) (ts ws : List ℕ) (A : Clear n ts ws) where
     meets-all = meets-all;
   }
 
-  -- 9: the wood's first nine places
-  pub anchor-edges : (i : ℕ) → i < 9 → target ws i ≡ at anchorTargets i
-  unfolding woodFault
-  anchor-edges i l =
-      eqb-true (target ws i) (at anchorTargets i)
-      (not-false (eqb (target ws i) (at anchorTargets i))
-      (some-none (anchorEdgeFault ws) 9 (or-false (some (anchorEdgeFault ws) 9) (some (targetFault n ws) (3 * n)) (free A 9) .0) i l))
+  -- 9: the wood's first nine places, and the other targets
+  pub anchor-edges : AnchorEdges ws
+  anchor-edges = tied-9 n ws .0 (free A 9) .0
 
-  -- 9: the other targets
-  pub targets : (e : ℕ) → 9 ≤ e → e < 3 * n → target ws e < n
-  unfolding woodFault
-  targets e h l =
-      and-fails (leb 9 e) (leb n (target ws e))
-      (some-none (targetFault n ws) (3 * n) (or-false (some (anchorEdgeFault ws) 9) (some (targetFault n ws) (3 * n)) (free A 9) .1) e l)
-      (λ t. absurd (omega (arith, leb-false 9 e t))) (λ t. leb-false n (target ws e) t)
+  pub targets : TargetsBelow n ws
+  targets = tied-9 n ws .0 (free A 9) .1
 
   pub used-inner : (e : ℕ) → 9 ≤ e → used e ≡ true
   unfolding used
@@ -113,21 +106,12 @@ module _ (n : ℕ) (ts ws : List ℕ) (A : Clear n ts ws) where
       (every-at (λ e. eqb (at anchorTargets e) unusedMark || used e) 9 refl e l)
       (λ q. absurd (omega (arith, eqb-true (at anchorTargets e) unusedMark q))) (λ q. q))
 
-  -- 10: an edge runs along a side
+  -- 10: an edge runs along a side, and no two join the same pair
   pub edge-in : (e : ℕ) → used e ≡ true → e < 3 * n → sideAt ts (source e) (target ws e) < length ts
-  unfolding edgeFault
-  edge-in e u l =
-      let t = some-none (joinFault n (third ts) ws) (3 * n) (or-false (some (joinFault n (third ts) ws) (3 * n)) (some (pairFault ws) (3 * n)) (free A 10) .0) e l in
-      neighbour-side n ts pairs (let a = few in omega arith) (source e) (target ws e)
-      (and-fails (used e) (not (isNeighbour n (third ts) (source e) (target ws e))) t (λ q. clash (used e) u q)
-      (λ q. not-false (isNeighbour n (third ts) (source e) (target ws e)) q))
+  edge-in = edges.edge-in n ts ws pairs (let a = few in omega arith) (free A 10)
 
-  pub pairs-apart : (d e : ℕ) → used d ≡ true → used e ≡ true → d < e → e < 3 * n → samePair ws d e ≡ false
-  unfolding edgeFault
-  pairs-apart d e u v l h =
-      let t = some-none (pairFault ws) (3 * n) (or-false (some (joinFault n (third ts) ws) (3 * n)) (some (pairFault ws) (3 * n)) (free A 10) .1) e h in
-      and-fails (used e) (some (λ d. used d && samePair ws d e) e) t (λ q. clash (used e) v q)
-      (λ q. and-fails (used d) (samePair ws d e) (some-none (λ d. used d && samePair ws d e) e q d l) (λ r. clash (used d) u r) (λ r. r))
+  pairs-apart : (d e : ℕ) → used d ≡ true → used e ≡ true → d < e → e < 3 * n → samePair ws d e ≡ false
+  pairs-apart = edges.pairs-apart n ts ws pairs (let a = few in omega arith) (free A 10)
 
   -- two edges that join a pair are one
   one-pair : (d e : ℕ) → d < 3 * n → e < 3 * n → target ws d < n → target ws e < n → samePair ws d e ≡ true → samePair ws e d ≡ true → d ≡ e
@@ -135,22 +119,12 @@ module _ (n : ℕ) (ts ws : List ℕ) (A : Clear n ts ws) where
       by-order d e (λ o. clash (samePair ws d e) s (pairs-apart d e (used-low d a) (used-low e b) o h)) (λ q. q)
       (λ o. clash (samePair ws e d) t (pairs-apart e d (used-low e b) (used-low d a) o l))
 
-  pub pair-same : (d e : ℕ) → source d ≡ source e → target ws d ≡ target ws e → samePair ws d e ≡ true
-  unfolding samePair
-  pair-same d e p q = rw (eq-eqb (source d) (source e) p, eq-eqb (target ws d) (target ws e) q)
-
-  pub pair-back : (d e : ℕ) → source d ≡ target ws e → target ws d ≡ source e → samePair ws d e ≡ true
-  unfolding samePair
-  pair-back d e p q =
-      or-right (eqb (source d) (source e) && eqb (target ws d) (target ws e)) (eqb (source d) (target ws e) && eqb (target ws d) (source e))
-      (rw (eq-eqb (source d) (target ws e) p, eq-eqb (target ws d) (source e) q))
-
   pub pair-once : (a b c d : ℕ) → a < n → b < n → c < 3 → d < 3 → target ws (3 * a + c) ≡ b → target ws (3 * a + d) ≡ b → c ≡ d
   pair-once a b c d la lb lc ld p q =
       let x : (3 * a + c) / 3 ≡ (3 * a + d) / 3 = omega arith in
       let z =
       one-pair (3 * a + c) (3 * a + d) (omega arith) (omega arith) (omega arith) (omega arith)
-      (pair-same (3 * a + c) (3 * a + d) x (p ∙ sym q)) (pair-same (3 * a + d) (3 * a + c) (sym x) (q ∙ sym p)) in
+      (pair-same ws (3 * a + c) (3 * a + d) x (p ∙ sym q)) (pair-same ws (3 * a + d) (3 * a + c) (sym x) (q ∙ sym p)) in
       omega arith
 
   no-loop : (a c : ℕ) → a < n → c < 3 → target ws (3 * a + c) ≡ a → ⊥
@@ -166,24 +140,17 @@ module _ (n : ℕ) (ts ws : List ℕ) (A : Clear n ts ws) where
       let y : (3 * b + d) / 3 ≡ b = omega arith in
       let z =
       one-pair (3 * a + c) (3 * b + d) (omega arith) (omega arith) (omega arith) (omega arith)
-      (pair-back (3 * a + c) (3 * b + d) (x ∙ sym q) (p ∙ sym y)) (pair-back (3 * b + d) (3 * a + c) (y ∙ sym p) (q ∙ sym x)) in
+      (pair-back ws (3 * a + c) (3 * b + d) (x ∙ sym q) (p ∙ sym y)) (pair-back ws (3 * b + d) (3 * a + c) (y ∙ sym p) (q ∙ sym x)) in
       let w : b ≡ a = omega arith in
       no-loop a c la lc (p ∙ w)
 
   -- 11
-  pub anchor-rule : (e : ℕ) → 9 ≤ e → e < 3 * n → target ws e < 3 → e % 3 ≡ target ws e
-  anchor-rule e h l k =
-      and-fails (leb 9 e) (ltb (target ws e) 3 && not (eqb (e % 3) (target ws e))) (some-none (anchorFault ws) (3 * n) (free A 11) e l)
-      (λ t. absurd (omega (arith, leb-false 9 e t)))
-      (λ t. and-fails (ltb (target ws e) 3) (not (eqb (e % 3) (target ws e))) t
-      (λ u. absurd (omega (arith, ltb-false (target ws e) 3 u)))
-      (λ u. eqb-true (e % 3) (target ws e) (not-false (eqb (e % 3) (target ws e)) u)))
+  pub anchor-rule : AnchorRule n ws
+  anchor-rule = tied-11 n ws .0 (free A 11)
 
   -- 12
-  pub turn-rule : (v : ℕ) → 3 ≤ v → v < n → turnRule 0 (labelsRound n (third ts) ws v) ≡ true
-  turn-rule v h l =
-      and-fails (leb 3 v) (not (turnRule 0 (labelsRound n (third ts) ws v))) (some-none (turnRuleFault n (third ts) ws) n (free A 12) v l)
-      (λ t. absurd (omega (arith, leb-false 3 v t))) (λ t. not-false (turnRule 0 (labelsRound n (third ts) ws v)) t)
+  turn-rule : (v : ℕ) → 3 ≤ v → v < n → turnRule 0 (labelsRound n (third ts) ws v) ≡ true
+  turn-rule = turn-kept n ts ws (free A 12)
 
   pub outer-side : (sideAt ts 0 2 < length ts) × (third ts 0 2 ≡ 1)
   unfolding outerFault

@@ -1,23 +1,24 @@
--- Numbers 9, 10 and 11, and what the mesh says of its wood's edges: the sentences say that none applies, and where 10 does not apply
--- an edge joins two neighbours and no two join the same pair.
+-- Numbers 9, 10 and 11, each with the sentences that it is met for want of: the fault is absent exactly when they hold. 10 needs that
+-- sides come in pairs, so that neighbours by the test are neighbours by the triangles.
 use Prim.Native.Nat.{ℕ, _*_, _≤_, _<_}
 use mathlib.Core.Path.{_≡_, refl, sym, _∙_}
 use mathlib.Core.List.{List}
 use mathlib.Core.Bool.{true, false, not, _&&_, _||_}
-use mathlib.Core.Logic.{inl, inr}
+use mathlib.Core.Logic.{_↔_, inl, inr}
 use native.Mathlib.Omega.{arith}
+use lib.ListN.{length}
 use lib.Dec.{leb, ltb, eqb}
-use borrow.Author.Tests.{ltb-true, le-leb, lt-leb, leb-true, eqb-true, eq-eqb}
+use borrow.Author.Tests.{ltb-true, ltb-false, le-leb, lt-leb, leb-true, leb-false, eqb-true, eq-eqb, not-false}
 use Rattle.mesh.specs.Search.{some}
 use Rattle.mesh.specs.Limits.{at, unusedMark}
-use Rattle.mesh.specs.Sides.{third, isNeighbour}
-use Rattle.mesh.specs.Wood.{source, colour, target, anchorTargets, used, samePair}
-use Rattle.mesh.specs.Verdict.{anchorEdgeFault, targetFault, woodFault, joinFault, pairFault, edgeFault, anchorFault, Clear}
-use Rattle.mesh.specs.Mesh.{Side, Edge, Joins}
-use Rattle.mesh.proofs.Tests.{byBool, clash, and-true, and-false-left, and-false-right, or-true, or-left, or-none, by-order}
-use Rattle.mesh.proofs.Search.{none-some}
+use Rattle.mesh.specs.Sides.{sideAt, third, isNeighbour}
 use Rattle.mesh.specs.Paired.{Paired}
-use Rattle.theorems.proofs.Accepted as accepted
+use Rattle.mesh.specs.Wood.{source, colour, target, anchorTargets, used, samePair}
+use Rattle.mesh.specs.Verdict.{anchorEdgeFault, targetFault, woodFault, joinFault, pairFault, edgeFault, anchorFault}
+use Rattle.mesh.specs.Mesh.{Edge, Joins, AnchorEdges, TargetsBelow, EdgesJoin, PairsOnce, AnchorRule}
+use Rattle.mesh.proofs.Tests.{byBool, clash, and-true, and-fails, and-false-left, and-false-right, or-true, or-left, or-right, or-false, or-none, by-order}
+use Rattle.mesh.proofs.Search.{some-none, none-some}
+use Rattle.mesh.proofs.Paired.{neighbour-side}
 use Rattle.theorems.proofs.Acceptance.Corners.{found-side}
 use Rattle.theorems.proofs.Acceptance.Table.{of-neighbour}
 
@@ -36,9 +37,23 @@ used-edge n e u l =
     (λ t. or-true (eqb e 3) (eqb e 6 || eqb e 7) t (λ a. (l, inl (eqb-true e 3 a)))
     (λ a. or-true (eqb e 6) (eqb e 7) a (λ b. (l, inr (inl (eqb-true e 6 b)))) (λ b. (l, inr (inr (inl (eqb-true e 7 b)))))))
 
--- 9
+-- 9: the wood's first nine indices, and the other targets
 module _ (n : ℕ) (ws : List ℕ) where
-  pub wood-right : ((i : ℕ) → i < 9 → target ws i ≡ at anchorTargets i) → ((e : ℕ) → 9 ≤ e → e < 3 * n → target ws e < n) → woodFault n ws ≡ false
+  anchors-held : woodFault n ws ≡ false → AnchorEdges ws
+  unfolding woodFault
+  anchors-held no9 i l =
+      eqb-true (target ws i) (at anchorTargets i)
+      (not-false (eqb (target ws i) (at anchorTargets i))
+      (some-none (anchorEdgeFault ws) 9 (or-false (some (anchorEdgeFault ws) 9) (some (targetFault n ws) (3 * n)) no9 .0) i l))
+
+  targets-held : woodFault n ws ≡ false → TargetsBelow n ws
+  unfolding woodFault
+  targets-held no9 e h l =
+      and-fails (leb 9 e) (leb n (target ws e))
+      (some-none (targetFault n ws) (3 * n) (or-false (some (anchorEdgeFault ws) 9) (some (targetFault n ws) (3 * n)) no9 .1) e l)
+      (λ t. absurd (omega (arith, leb-false 9 e t))) (λ t. leb-false n (target ws e) t)
+
+  wood-right : AnchorEdges ws → TargetsBelow n ws → woodFault n ws ≡ false
   unfolding woodFault
   wood-right a b =
       or-none (some (anchorEdgeFault ws) 9) (some (targetFault n ws) (3 * n))
@@ -47,6 +62,9 @@ module _ (n : ℕ) (ws : List ℕ) where
       (λ e l. byBool (leb 9 e)
       (λ t. and-false-right (leb 9 e) (leb n (target ws e)) (lt-leb n (target ws e) (b e (leb-true 9 e t) l)))
       (λ t. and-false-left (leb 9 e) (leb n (target ws e)) t)))
+
+  pub tied-9 : (woodFault n ws ≡ false) ↔ (AnchorEdges ws × TargetsBelow n ws)
+  tied-9 = (λ e. (anchors-held e, targets-held e), λ h. wood-right (h .0) (h .1))
 
 -- 10: two edges join the same pair, by the test and by the sentence
 pair-joins : (ws : List ℕ) (d e : ℕ) → samePair ws d e ≡ true → Joins ws d (source e) (target ws e)
@@ -60,28 +78,25 @@ pair-joins ws d e t =
     let p = and-true (eqb (source d) (target ws e)) (eqb (target ws d) (source e)) u in
     inr (eqb-true (source d) (target ws e) (p .0), eqb-true (target ws d) (source e) (p .1)))
 
-module _ (n : ℕ) (ts ws : List ℕ) (A : Clear n ts ws) where
-  pub edge-joins : (e : ℕ) → Edge n e → Side ts (source e) (target ws e)
-  edge-joins e h = found-side ts (source e) (target ws e) (accepted.edge-in n ts ws A e (edge-used n e h) (h .0))
+module _ (ws : List ℕ) (d e : ℕ) where
+  pub pair-same : source d ≡ source e → target ws d ≡ target ws e → samePair ws d e ≡ true
+  unfolding samePair
+  pair-same p q = rw (eq-eqb (source d) (source e) p, eq-eqb (target ws d) (target ws e) q)
 
-  joins-pair : (d e a b : ℕ) → Joins ws d a b → Joins ws e a b → samePair ws d e ≡ true
-  joins-pair d e a b (inl p) (inl q) = accepted.pair-same n ts ws A d e (p .0 ∙ sym (q .0)) (p .1 ∙ sym (q .1))
-  joins-pair d e a b (inl p) (inr q) = accepted.pair-back n ts ws A d e (p .0 ∙ sym (q .1)) (p .1 ∙ sym (q .0))
-  joins-pair d e a b (inr p) (inl q) = accepted.pair-back n ts ws A d e (p .0 ∙ sym (q .1)) (p .1 ∙ sym (q .0))
-  joins-pair d e a b (inr p) (inr q) = accepted.pair-same n ts ws A d e (p .0 ∙ sym (q .0)) (p .1 ∙ sym (q .1))
+  pub pair-back : source d ≡ target ws e → target ws d ≡ source e → samePair ws d e ≡ true
+  unfolding samePair
+  pair-back p q =
+      or-right (eqb (source d) (source e) && eqb (target ws d) (target ws e)) (eqb (source d) (target ws e) && eqb (target ws d) (source e))
+      (rw (eq-eqb (source d) (target ws e) p, eq-eqb (target ws d) (source e) q))
 
-  -- of two edges that join a pair neither is lower
-  not-lower : (d e a b : ℕ) → Edge n d → Edge n e → Joins ws d a b → Joins ws e a b → d < e → ⊥
-  not-lower d e a b hd he p q l =
-      clash (samePair ws d e) (joins-pair d e a b p q) (accepted.pairs-apart n ts ws A d e (edge-used n d hd) (edge-used n e he) l (he .0))
-
-  pub pairs-once : (d e a b : ℕ) → Edge n d → Edge n e → Joins ws d a b → Joins ws e a b → d ≡ e
-  pairs-once d e a b hd he p q =
-      by-order d e (λ l. absurd (not-lower d e a b hd he p q l)) (λ z. z) (λ l. absurd (not-lower e d a b he hd q p l))
+  joins-pair : (a b : ℕ) → Joins ws d a b → Joins ws e a b → samePair ws d e ≡ true
+  joins-pair a b (inl p) (inl q) = pair-same (p .0 ∙ sym (q .0)) (p .1 ∙ sym (q .1))
+  joins-pair a b (inl p) (inr q) = pair-back (p .0 ∙ sym (q .1)) (p .1 ∙ sym (q .0))
+  joins-pair a b (inr p) (inl q) = pair-back (p .0 ∙ sym (q .1)) (p .1 ∙ sym (q .0))
+  joins-pair a b (inr p) (inr q) = pair-same (p .0 ∙ sym (q .0)) (p .1 ∙ sym (q .1))
 
 module _ (n : ℕ) (ts ws : List ℕ) (P : Paired n ts) (few : n ≤ unusedMark) where
-  pub edges-right : ((e : ℕ) → Edge n e → Side ts (source e) (target ws e))
-      → ((d e a b : ℕ) → Edge n d → Edge n e → Joins ws d a b → Joins ws e a b → d ≡ e) → edgeFault n (third ts) ws ≡ false
+  edges-right : EdgesJoin n ts ws → PairsOnce n ws → edgeFault n (third ts) ws ≡ false
   unfolding edgeFault
   edges-right joins once =
       or-none (some (joinFault n (third ts) ws) (3 * n)) (some (pairFault ws) (3 * n))
@@ -103,15 +118,58 @@ module _ (n : ℕ) (ts ws : List ℕ) (P : Paired n ts) (few : n ≤ unusedMark)
       (λ t. t))))
       (λ u. and-false-left (used e) (some (λ d. used d && samePair ws d e) e) u)))
 
+  -- an edge runs along a side, and two of them do not join the same pair
+  module _ (no10 : edgeFault n (third ts) ws ≡ false) where
+    pub edge-in : (e : ℕ) → used e ≡ true → e < 3 * n → sideAt ts (source e) (target ws e) < length ts
+    unfolding edgeFault
+    edge-in e u l =
+        let t = some-none (joinFault n (third ts) ws) (3 * n) (or-false (some (joinFault n (third ts) ws) (3 * n)) (some (pairFault ws) (3 * n)) no10 .0) e l in
+        neighbour-side n ts P few (source e) (target ws e)
+        (and-fails (used e) (not (isNeighbour n (third ts) (source e) (target ws e))) t (λ q. clash (used e) u q)
+        (λ q. not-false (isNeighbour n (third ts) (source e) (target ws e)) q))
+
+    pub pairs-apart : (d e : ℕ) → used d ≡ true → used e ≡ true → d < e → e < 3 * n → samePair ws d e ≡ false
+    unfolding edgeFault
+    pairs-apart d e u v l h =
+        let t = some-none (pairFault ws) (3 * n) (or-false (some (joinFault n (third ts) ws) (3 * n)) (some (pairFault ws) (3 * n)) no10 .1) e h in
+        and-fails (used e) (some (λ d. used d && samePair ws d e) e) t (λ q. clash (used e) v q)
+        (λ q. and-fails (used d) (samePair ws d e) (some-none (λ d. used d && samePair ws d e) e q d l) (λ r. clash (used d) u r) (λ r. r))
+
+    -- of two edges that join a pair neither is lower
+    not-lower : (d e a b : ℕ) → Edge n d → Edge n e → Joins ws d a b → Joins ws e a b → d < e → ⊥
+    not-lower d e a b hd he p q l =
+        clash (samePair ws d e) (joins-pair ws d e a b p q) (pairs-apart d e (edge-used n d hd) (edge-used n e he) l (he .0))
+
+    pairs-once : PairsOnce n ws
+    pairs-once d e a b hd he p q =
+        by-order d e (λ l. absurd (not-lower d e a b hd he p q l)) (λ z. z) (λ l. absurd (not-lower e d a b he hd q p l))
+
+    edges-join : EdgesJoin n ts ws
+    edges-join e h = found-side ts (source e) (target ws e) (edge-in e (edge-used n e h) (h .0))
+
+  pub tied-10 : (edgeFault n (third ts) ws ≡ false) ↔ (EdgesJoin n ts ws × PairsOnce n ws)
+  tied-10 = (λ e. (edges-join e, pairs-once e), λ h. edges-right (h .0) (h .1))
+
 -- 11: the anchor rule
-pub anchors-right : (n : ℕ) (ws : List ℕ) → ((e : ℕ) → 9 ≤ e → e < 3 * n → target ws e < 3 → colour e ≡ target ws e)
-    → some (anchorFault ws) (3 * n) ≡ false
-anchors-right n ws rule =
-    none-some (anchorFault ws) (3 * n)
-    (λ e l. byBool (leb 9 e)
-    (λ t. and-false-right (leb 9 e) (ltb (target ws e) 3 && not (eqb (colour e) (target ws e)))
-    (byBool (ltb (target ws e) 3)
-    (λ u. and-false-right (ltb (target ws e) 3) (not (eqb (colour e) (target ws e)))
-    (rw (eq-eqb (colour e) (target ws e) (rule e (leb-true 9 e t) l (ltb-true (target ws e) 3 u)))))
-    (λ u. and-false-left (ltb (target ws e) 3) (not (eqb (colour e) (target ws e))) u)))
-    (λ t. and-false-left (leb 9 e) (ltb (target ws e) 3 && not (eqb (colour e) (target ws e))) t))
+module _ (n : ℕ) (ws : List ℕ) where
+  rule-held : some (anchorFault ws) (3 * n) ≡ false → AnchorRule n ws
+  rule-held no11 e h l k =
+      and-fails (leb 9 e) (ltb (target ws e) 3 && not (eqb (colour e) (target ws e))) (some-none (anchorFault ws) (3 * n) no11 e l)
+      (λ t. absurd (omega (arith, leb-false 9 e t)))
+      (λ t. and-fails (ltb (target ws e) 3) (not (eqb (colour e) (target ws e))) t
+      (λ u. absurd (omega (arith, ltb-false (target ws e) 3 u)))
+      (λ u. eqb-true (colour e) (target ws e) (not-false (eqb (colour e) (target ws e)) u)))
+
+  anchors-right : AnchorRule n ws → some (anchorFault ws) (3 * n) ≡ false
+  anchors-right rule =
+      none-some (anchorFault ws) (3 * n)
+      (λ e l. byBool (leb 9 e)
+      (λ t. and-false-right (leb 9 e) (ltb (target ws e) 3 && not (eqb (colour e) (target ws e)))
+      (byBool (ltb (target ws e) 3)
+      (λ u. and-false-right (ltb (target ws e) 3) (not (eqb (colour e) (target ws e)))
+      (rw (eq-eqb (colour e) (target ws e) (rule e (leb-true 9 e t) l (ltb-true (target ws e) 3 u)))))
+      (λ u. and-false-left (ltb (target ws e) 3) (not (eqb (colour e) (target ws e))) u)))
+      (λ t. and-false-left (leb 9 e) (ltb (target ws e) 3 && not (eqb (colour e) (target ws e))) t))
+
+  pub tied-11 : (some (anchorFault ws) (3 * n) ≡ false) ↔ AnchorRule n ws
+  tied-11 = (rule-held, anchors-right)

@@ -1,68 +1,68 @@
--- A verdict of 0 is a mesh, sentence by sentence, and back. The reach has no test: it is proved from the path rule, and where the
--- mesh is given it is not needed.
-use Prim.Native.Nat.{ℕ, _*_, _≤_, _<_}
-use mathlib.Core.Path.{_≡_, ap, _∙_, subst}
+-- A verdict of 0 is a mesh, sentence by sentence, and back, by the ties of the numbers one after the other. The reach has no test: it is
+-- proved from the path rule, and where the mesh is given it is not needed.
+use Prim.Native.Nat.{ℕ, _-_, _*_, _≤_, _<_}
+use mathlib.Core.Path.{_≡_, ap, _∙_}
 use mathlib.Core.List.{List}
-use mathlib.Core.Bool.{true}
 use mathlib.Core.Logic.{inr}
 use native.Mathlib.Omega.{arith}
+use lib.ListN.{length}
 use Rattle.mesh.specs.Limits.{unusedMark}
-use Rattle.mesh.specs.Sides.{next, from, third, firstNeighbour}
-use Rattle.mesh.specs.Wood.{source, target, edgeOf, turnRule, labelsRound}
+use Rattle.mesh.specs.Sides.{next, from}
+use Rattle.mesh.specs.Paired.{Paired}
 use Rattle.mesh.specs.Ladder.{end, past}
 use Rattle.mesh.specs.Verdict.{verdict, Clear}
-use Rattle.mesh.specs.Mesh.{Triangle, Side, Edge, Mesh}
-use Rattle.mesh.proofs.Limits.{range-in}
-use Rattle.mesh.proofs.Ladder.{free}
+use Rattle.mesh.specs.Mesh.{Triangle, Side, Mesh}
 use Rattle.mesh.proofs.Positions.{next-3}
-use Rattle.mesh.specs.Paired.{Paired}
-use Rattle.mesh.proofs.Paired.{simple, next-within}
+use Rattle.mesh.proofs.Paired.{next-within}
+use Rattle.mesh.proofs.Limits.{in-range, range-in}
+use Rattle.mesh.proofs.Ladder.{free}
 use Rattle.mesh.proofs.Verdict.{verdict-clear, clear-verdict, clear-of}
-use Rattle.theorems.proofs.Acceptance.Corners.{found-side, reversed, side-triangle}
-use Rattle.theorems.proofs.Accepted as accepted
-use Rattle.theorems.proofs.Acceptance.Table as table
-use Rattle.theorems.proofs.Acceptance.Edges as edges
-use Rattle.theorems.proofs.Acceptance.Paths as paths
-use Rattle.theorems.proofs.Acceptance.Turns as turns
-use Rattle.theorems.proofs.Acceptance.Labels as labels
+use Rattle.theorems.proofs.Acceptance.Table.{tied-2, tied-3, tied-4, tied-5, tied-6, sides-paired, tied-7, tied-8}
+use Rattle.theorems.proofs.Acceptance.Edges.{tied-9, tied-10, tied-11}
+use Rattle.theorems.proofs.Acceptance.Rules.{tied-12, tied-13}
+use Rattle.theorems.proofs.Acceptance.Paths.{reached}
 
 clear-mesh : (n : ℕ) (ts ws : List ℕ) → Clear n ts ws → Mesh n ts ws
 clear-mesh n ts ws A =
-    let P : Paired n ts = accepted.pairs n ts ws A in
-    let small = accepted.few n ts ws A in
+    let range = in-range n (free A 1) in
+    let low = range .enough in
+    let high = range .not-too-many in
+    let lengths = tied-2 n ts ws .0 (free A 2) in
+    let corners = tied-3 n ts .0 (free A 3) in
+    let differ = tied-4 ts .0 (free A 4) in
+    let once = tied-5 ts .0 (free A 5) in
+    let reverse = tied-6 ts .0 (free A 6) in
+    let P : Paired n ts = sides-paired n ts (2 * n - 4) (let e = lengths .0 in omega arith) corners differ once reverse in
     let few : n ≤ unusedMark = omega arith in
-    let o = accepted.outer-side n ts ws A in
-    let outer : Triangle ts 0 2 1 = subst (Triangle ts 0 2) (o .1) (side-triangle n ts P 0 2 (found-side ts 0 2 (o .0))) in
-    let joins = edges.edge-joins n ts ws A in
-    let inner : (e : ℕ) → 9 ≤ e → e < 3 * n → Side ts (source e) (target ws e) = (λ e h l. joins e (l, inr (inr (inr h)))) in
-    let rule = paths.paths-ruled n ws (free A 13) in
+    let outer = tied-7 ts once .0 (free A 7) in
+    let turns = tied-8 n ts P few .0 (free A 8) in
+    let wood = tied-9 n ws .0 (free A 9) in
+    let edges = tied-10 n ts ws P few .0 (free A 10) in
+    let paths = tied-13 n ws (wood .1) .0 (free A 13) in
     record {
-      enough = accepted.enough n ts ws A;
-      not-too-many = accepted.not-too-many n ts ws A;
-      triangles-length = accepted.triangles-length n ts ws A;
-      wood-length = accepted.wood-length n ts ws A;
-      corners = P .corner;
-      corners-differ = P .differ;
-      side-once = simple n ts P;
-      reverse = reversed n ts P;
+      enough = low;
+      not-too-many = high;
+      triangles-length = lengths .0;
+      wood-length = lengths .1;
+      corners = corners;
+      corners-differ = differ;
+      side-once = once;
+      reverse = reverse;
       outer = outer;
-      in-triangle = λ v l. (firstNeighbour n (third ts) v, table.in-triangle n ts P few (free A 8) v l);
-      one-turn = table.one-turn n ts P few (free A 8);
-      anchor-edges = accepted.anchor-edges n ts ws A;
-      targets = accepted.targets n ts ws A;
-      joins = joins;
-      pair-once = edges.pairs-once n ts ws A;
-      anchor-rule = accepted.anchor-rule n ts ws A;
-      turn-rule = λ v h l.
-          turns.rule-parts n ts ws P v (colour-0 v h l (inner (edgeOf v 0) (omega arith) (omega arith))) (accepted.turn-rule n ts ws A v h l);
-      path-rule = rule;
+      in-triangle = turns .0;
+      one-turn = turns .1;
+      anchor-edges = wood .0;
+      targets = wood .1;
+      joins = edges .0;
+      pair-once = edges .1;
+      anchor-rule = tied-11 n ws .0 (free A 11);
+      turn-rule = tied-12 n ts ws P high (lengths .1) (wood .0) (edges .0) (edges .1) .0 (free A 12);
+      path-rule = paths;
       reach =
-          paths.reached n ts ws (accepted.targets n ts ws A) inner (reversed n ts P) (outer-02 outer) (outer-10 P outer) (λ v h l. rule v 0 h l (omega arith));
+          reached n ts ws (wood .1) (λ e h l. edges .0 e (l, inr (inr (inr h)))) reverse (outer-02 outer) (outer-10 P outer)
+          (λ v h l. paths v 0 h l (omega arith));
     }
   where
-    colour-0 : (v : ℕ) → 3 ≤ v → v < n → Side ts (source (edgeOf v 0)) (target ws (edgeOf v 0)) → Side ts v (target ws (edgeOf v 0))
-    colour-0 v h l s = let x : source (edgeOf v 0) ≡ v = omega arith in subst (λ y. Side ts y (target ws (edgeOf v 0))) x s
-
     outer-02 : Triangle ts 0 2 1 → Side ts 0 2
     outer-02 t = record { position = t .position; within = t .within; starts = t .first-is; ends = t .second-is }
 
@@ -77,30 +77,23 @@ clear-mesh n ts ws A =
 
 mesh-clear : (n : ℕ) (ts ws : List ℕ) → Mesh n ts ws → Clear n ts ws
 mesh-clear n ts ws M =
-    let P : Paired n ts = table.mesh-paired n ts ws M in
-    let most = M .not-too-many in
+    let low = M .enough in
+    let high = M .not-too-many in
+    let P : Paired n ts =
+    sides-paired n ts (2 * n - 4) (let e = M .triangles-length in omega arith) (M .corners) (M .corners-differ) (M .side-once) (M .reverse) in
     let few : n ≤ unusedMark = omega arith in
-    let sides = table.pairs-right n ts P in
-    clear-of n ts ws (range-in n (record { enough = M .enough; not-too-many = M .not-too-many }))
-    (table.lengths-right n ts ws (M .triangles-length) (M .wood-length))
-    (past (sides .0)
-    (past (sides .1)
-    (past (sides .2)
-    (past (sides .3)
-    (past (table.outer-right n ts P few (M .outer))
-    (past (table.turns-right n ts P few (M .in-triangle) (M .one-turn)) end))))))
-    (past (edges.wood-right n ws (M .anchor-edges) (M .targets))
-    (past (edges.edges-right n ts ws P few (M .joins) (M .pair-once))
-    (past (edges.anchors-right n ws (M .anchor-rule))
-    (past (turns.turns-right n ts ws (keeps P))
-    (past (paths.paths-right n ws (M .targets) (M .path-rule)) end)))))
-  where
-    keeps : Paired n ts → (v : ℕ) → 3 ≤ v → v < n → turnRule 0 (labelsRound n (third ts) ws v) ≡ true
-    keeps P v h l =
-        let x : source (edgeOf v 0) ≡ v = omega arith in
-        let e : Edge n (edgeOf v 0) = (omega arith, inr (inr (inr (omega arith)))) in
-        turns.parts-keep n ts ws P v (subst (λ y. Side ts y (target ws (edgeOf v 0))) x (M .joins (edgeOf v 0) e)) (labels.is-out n ts ws M v h l)
-        (labels.is-into n ts ws M v h l) (M .turn-rule v h l)
+    clear-of n ts ws (range-in n (record { enough = low; not-too-many = high })) (tied-2 n ts ws .1 (M .triangles-length, M .wood-length))
+    (past (tied-3 n ts .1 (M .corners))
+    (past (tied-4 ts .1 (M .corners-differ))
+    (past (tied-5 ts .1 (M .side-once))
+    (past (tied-6 ts .1 (M .reverse))
+    (past (tied-7 ts (M .side-once) .1 (M .outer))
+    (past (tied-8 n ts P few .1 (M .in-triangle, M .one-turn)) end))))))
+    (past (tied-9 n ws .1 (M .anchor-edges, M .targets))
+    (past (tied-10 n ts ws P few .1 (M .joins, M .pair-once))
+    (past (tied-11 n ws .1 (M .anchor-rule))
+    (past (tied-12 n ts ws P high (M .wood-length) (M .anchor-edges) (M .joins) (M .pair-once) .1 (M .turn-rule))
+    (past (tied-13 n ws (M .targets) .1 (M .path-rule)) end)))))
 
 -- what is accepted is a mesh
 pub accepted-is-mesh : (n : ℕ) (ts ws : List ℕ) → verdict n ts ws ≡ 0 → Mesh n ts ws

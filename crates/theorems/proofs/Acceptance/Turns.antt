@@ -9,14 +9,14 @@ use mathlib.Core.Logic.{_≢_}
 use native.Mathlib.Omega.{arith}
 use lib.ListN.{length}
 use lib.Dec.{leb, ltb, eqb}
-use borrow.Author.Tests.{ltb-true, lt-ltb, leb-true, eqb-true, eqb-false, eq-eqb}
+use borrow.Author.Tests.{ltb-true, lt-ltb, leb-true, leb-false, eqb-true, eqb-false, eq-eqb, not-false}
 use Rattle.mesh.specs.Search.{some, iterate, tabulateFrom, tabulate}
 use Rattle.mesh.specs.Sides.{third, turnLength}
 use Rattle.mesh.specs.Wood.{Label, out, into, bare, target, edgeOf, labelOf, turnRule, labelsRound}
 use Rattle.mesh.specs.Verdict.{turnRuleFault}
 use Rattle.mesh.specs.Mesh.{Triangle, Side, Linked, Apart, Once, AllInto, TurnRule}
-use Rattle.mesh.proofs.Tests.{byBool, clash, and-true, and-false-left, and-false-right, by-order}
-use Rattle.mesh.proofs.Search.{none-some}
+use Rattle.mesh.proofs.Tests.{byBool, clash, and-true, and-fails, and-false-left, and-false-right, by-order}
+use Rattle.mesh.proofs.Search.{some-none, none-some}
 use Rattle.mesh.proofs.Iterate.{iterate-zero, iterate-step}
 use Rattle.mesh.specs.Paired.{Paired}
 use Rattle.mesh.proofs.TurnRule.{byLabel}
@@ -244,6 +244,12 @@ module _ (n : ℕ) (ts ws : List ℕ) (P : Paired n ts) (v : ℕ) (side : Side t
       parts-rule ws v is-out is-into (R .in2) (R .in0) (R .in1) (R .all-in2) (R .all-in0) (R .all-in1)
 
 -- 12, at every inner vertex
+pub turn-kept : (n : ℕ) (ts ws : List ℕ) → some (turnRuleFault n (third ts) ws) n ≡ false
+    → (v : ℕ) → 3 ≤ v → v < n → turnRule 0 (labelsRound n (third ts) ws v) ≡ true
+turn-kept n ts ws no12 v h l =
+    and-fails (leb 3 v) (not (turnRule 0 (labelsRound n (third ts) ws v))) (some-none (turnRuleFault n (third ts) ws) n no12 v l)
+    (λ t. absurd (omega (arith, leb-false 3 v t))) (λ t. not-false (turnRule 0 (labelsRound n (third ts) ws v)) t)
+
 pub turns-right : (n : ℕ) (ts ws : List ℕ) → ((v : ℕ) → 3 ≤ v → v < n → turnRule 0 (labelsRound n (third ts) ws v) ≡ true)
     → some (turnRuleFault n (third ts) ws) n ≡ false
 turns-right n ts ws rule =
