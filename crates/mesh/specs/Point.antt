@@ -1,4 +1,4 @@
--- Point: the place of a vertex among 3n coordinates, or its refusal.
+-- Point: the three coordinates of a vertex among 3n, or its refusal.
 use Prim.Native.Nat.{ℕ, _+_, _*_}
 use mathlib.Core.List.{List}
 use mathlib.Core.Bool.{Bool, cond, not, _&&_}
@@ -17,7 +17,7 @@ allFinite cs v = finite (coordinate cs v 0) && (finite (coordinate cs v 1) && fi
 
 -- the number that Point meets first, 0 where it answers the three coordinates: 1, 2, 15, 17
 unfoldable pub pointRefusal : ℕ → List Float → ℕ → ℕ
-unfolding outOfRange
+unfolding outOfRange allFinite
 pointRefusal n cs v =
     cond (outOfRange n) 1
     (cond (not (eqb (length cs) (coordinatesLength n))) 2
