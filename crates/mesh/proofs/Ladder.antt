@@ -4,9 +4,9 @@ use Prim.Native.Nat.{ℕ}
 use mathlib.Core.Path.{_≡_, refl, sym, _∙_, subst}
 use mathlib.Core.List.{List, [], _∷_, _++_}
 use mathlib.Core.Bool.{Bool, true, false, not, _&&_, _||_}
-use mathlib.Core.Logic.{_≢_, _↔_}
+use mathlib.Core.Logic.{_≢_}
 use lib.Dec.{eqb}
-use borrow.Author.Tests.{eqb-true, eqb-false, eq-eqb, ne-eqb, not-true}
+use borrow.Author.Tests.{eqb-true, eqb-false, eq-eqb, not-true}
 use Rattle.mesh.specs.Ladder.{Rung, rung, firstOf, applies, numbers, NoneApplies, end, past, NoneBefore, here, past-one}
 use Rattle.mesh.proofs.Tests.{byBool, clash, and-true, and-of, or-true, or-left, or-right}
 

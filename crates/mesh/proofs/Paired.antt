@@ -5,7 +5,6 @@ use Prim.Native.Nat.{ℕ, zero, suc, _*_, _≤_, _<_}
 use mathlib.Core.Path.{_≡_, refl, sym, ap, _∙_}
 use mathlib.Core.List.{List}
 use mathlib.Core.Bool.{true, false}
-use mathlib.Core.Logic.{_≢_}
 use native.Mathlib.Omega.{arith}
 use lib.ListN.{length}
 use lib.Dec.{ltb}

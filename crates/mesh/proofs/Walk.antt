@@ -6,7 +6,7 @@ use native.Mathlib.Nat.{not-suc-le-zero, zero-add}
 use mathlib.Core.Path.{_≡_, refl, sym, ap, _∙_}
 use mathlib.Core.List.{List, [], _∷_}
 use mathlib.Core.Bool.{Bool, true, false}
-use lib.Dec.{eqb, ltb}
+use lib.Dec.{ltb}
 use lib.ListN.{length}
 use borrow.Author.Tests.{ltb-true, eq-eqb}
 use Rattle.mesh.specs.Search.{iterate}

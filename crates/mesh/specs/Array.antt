@@ -11,7 +11,7 @@ use Rattle.mesh.specs.Wood.{source, target, used, colourTo, labelOf, edg
 pub data Hand : Type 0 where
   left right : Hand
 
--- the place of an edge's Front in the references: "Place 2j is LeftFront(j), place 2j+1 is RightFront(j)"
+-- the place of an edge's Front in the references: two to an edge, the left before the right
 abbrev pub frontPlace : Hand → ℕ → ℕ
 frontPlace left j = 2 * j
 frontPlace right j = 2 * j + 1
@@ -19,20 +19,20 @@ frontPlace right j = 2 * j + 1
 abbrev pub handAt : ℕ → Hand
 handAt i = cond (eqb (i % 2) 0) left right
 
--- "For edge j from u to v, w is the third corner of the triangle with side u to v (left), z that of the one with side v to u (right)"
+-- the third corner beside the edge from u to v: of the triangle with that side on the left, with the reverse side on the right
 abbrev pub cornerOn : Hand → (ℕ → ℕ → ℕ) → ℕ → ℕ → ℕ
 cornerOn left x u v = x u v
 cornerOn right x u v = x v u
 
--- "LeftFront joins v and w, RightFront v and z"
+-- the Front joins the edge's target with that corner
 unfoldable pub front : Hand → (ℕ → ℕ → ℕ) → List ℕ → ℕ → ℕ
 front h x ws j = edgeAt ws (target ws j) (cornerOn h x (source j) (target ws j))
 
--- "LeftBack u and w, RightBack u and z"
+-- the Back joins the edge's source with it
 unfoldable pub back : Hand → (ℕ → ℕ → ℕ) → List ℕ → ℕ → ℕ
 back h x ws j = edgeAt ws (source j) (cornerOn h x (source j) (target ws j))
 
--- "Unused edges hold 65,535"
+-- what a place holds: the mark where the edge is unused
 unfoldable pub referenceAt : (ℕ → ℕ → ℕ) → List ℕ → ℕ → ℕ
 referenceAt x ws i = cond (used (i / 2)) (front (handAt i) x ws (i / 2)) unusedMark
 
@@ -40,7 +40,7 @@ referenceAt x ws i = cond (used (i / 2)) (front (handAt i) x ws (i / 2)) unusedM
 unfoldable pub sameSource : Hand → (ℕ → ℕ → ℕ) → List ℕ → ℕ → ℕ
 sameSource h x ws j = cond (eqb (source (back h x ws j)) (source j)) 1 0
 
--- "Bit 0 is set when j and LeftBack(j) have the same source, bit 1 likewise for RightBack(j)"; unused edges hold 0
+-- the two bits of edge j, the left's below the right's; 0 where the edge is unused
 unfoldable pub serviceAt : (ℕ → ℕ → ℕ) → List ℕ → ℕ → ℕ
 serviceAt x ws j = cond (used j) (sameSource left x ws j + 2 * sameSource right x ws j) 0
 

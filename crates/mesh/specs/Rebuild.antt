@@ -34,7 +34,7 @@ cornerBeside h refs ws j = otherEnd ws (at refs (frontPlace h j)) (target ws j)
 unfoldable pub isLowest : Hand → List ℕ → List ℕ → ℕ → Bool
 isLowest h refs ws j = ltb j (at refs (frontPlace h j)) && ltb j (edgeAt ws (source j) (cornerBeside h refs ws j))
 
--- "as (u,v,w) on the left or (v,u,z) on the right"
+-- the triangle beside j with its edge first: along it on the left, against it on the right
 abbrev pub triangleBeside : Hand → List ℕ → List ℕ → ℕ → List ℕ
 triangleBeside left refs ws j = source j ∷ target ws j ∷ cornerBeside left refs ws j ∷ []
 triangleBeside right refs ws j = target ws j ∷ source j ∷ cornerBeside right refs ws j ∷ []
@@ -47,7 +47,7 @@ writtenAt refs ws i =
 unfoldable pub trianglesFrom : ℕ → List ℕ → List ℕ → List ℕ
 trianglesFrom n refs ws = gather (writtenAt refs ws) (referencesLength n)
 
--- "Triangles are written by ascending edge index, left before right. Each is written at the smallest index among its three edges"
+-- all that is written, by ascending edge and the left before the right (SPECIFICATION, section 9)
 unfoldable pub rebuiltTriangles : ℕ → List ℕ → List ℕ
 unfolding trianglesFrom writtenAt isLowest cornerBeside otherEnd rebuiltWood gatherFrom gather first firstFrom colourTo labelOf edgeAt used
 rebuiltTriangles n refs = let ws = rebuiltWood n refs in trianglesFrom n refs ws
@@ -58,7 +58,7 @@ sameList [] (y ∷ ys) = false
 sameList (x ∷ xs) [] = false
 sameList (x ∷ xs) (y ∷ ys) = eqb x y && sameList xs ys
 
--- 18 "no accepted mesh has this reference array", 0 where the decoded mesh is accepted and has it
+-- 0 where the decoded mesh is accepted and has these references; 18 where it does not, and then no accepted mesh has them
 unfoldable pub rebuildSays : ℕ → List ℕ → ℕ
 unfolding rebuiltWood rebuiltTriangles verdict referencesOf sameList
 rebuildSays n refs =

@@ -11,7 +11,7 @@ use Rattle.mesh.specs.Limits.{at, unusedMark}
 unfoldable pub next : ℕ → ℕ
 next p = 3 * (p / 3) + (p + 1) % 3
 
--- "Triangle (a,b,c) has directed sides a to b, b to c, c to a"
+-- where the side at p starts and ends: sides follow the corners round
 abbrev pub from : List ℕ → ℕ → ℕ
 from ts p = at ts p
 
@@ -26,7 +26,7 @@ unfoldable pub sideAt : List ℕ → ℕ → ℕ → ℕ
 sideAt ts a b = first (isSide ts a b) (length ts)
 
 -- the third corner of the triangle with side a to b; the mark where there is none.
--- "Round vertex v the neighbour after x is the y of the triangle (v,x,y)": it is third ts v x
+-- So third ts v x is the neighbour that comes after x round v
 unfoldable pub third : List ℕ → ℕ → ℕ → ℕ
 third ts a b = let p = sideAt ts a b in cond (ltb p (length ts)) (at ts (next (next p))) unusedMark
 

@@ -1,5 +1,5 @@
--- Numbers 1 to 13. Each fault is "some place below a bound is at fault", so its lowest place is a search too; each is over the
--- whole input, and is asked only where none before it applies.
+-- Numbers 1 to 13 (SPECIFICATION, section 4). Each fault is that some place below a bound is at fault, so its lowest place is a search
+-- too; each is over the whole input, and the ladders at the end put them in order.
 use Prim.Native.Nat.{ℕ, _*_}
 use mathlib.Core.List.{List, [], _∷_, _++_}
 use mathlib.Core.Bool.{Bool, not, _&&_, _||_}
@@ -11,35 +11,35 @@ use Rattle.mesh.specs.Sides.{next, from, to, sideAt, third, isNeighbour,
 use Rattle.mesh.specs.Ladder.{Rung, rung, firstOf, NoneApplies}
 use Rattle.mesh.specs.Wood.{source, colour, target, anchorTargets, used, colourTo, labelOf, samePair, turnRule, labelsRound, along}
 
--- 2, of the two tables that a mesh is: "doesn't have exactly the length that n asks"
+-- 2, of the two tables that a mesh is: one has another length than n asks
 unfoldable pub wrongLengths : ℕ → List ℕ → List ℕ → Bool
 wrongLengths n ts ws = not (eqb (length ts) (trianglesLength n) && eqb (length ws) (woodLength n))
 
--- 3: "a corner is n or more"
+-- 3: the corner at p is no vertex
 abbrev pub cornerFault : ℕ → List ℕ → ℕ → Bool
 cornerFault n ts p = leb n (from ts p)
 
--- 4: "a triangle has two equal corners", here the corner at p and the next
+-- 4: the corner at p is the next one too
 abbrev pub equalFault : List ℕ → ℕ → Bool
 equalFault ts p = eqb (from ts p) (to ts p)
 
--- 5: "a directed side occurs twice", here at p for the second time or later
+-- 5: the side at p occurs before
 abbrev pub repeatFault : List ℕ → ℕ → Bool
 repeatFault ts p = ltb (sideAt ts (from ts p) (to ts p)) p
 
--- 6: "a directed side's reverse doesn't occur"
+-- 6: the reverse of the side at p is nowhere
 abbrev pub reverseFault : List ℕ → ℕ → Bool
 reverseFault ts p = leb (length ts) (sideAt ts (to ts p) (from ts p))
 
--- 7: "the outer triangle isn't in the table": it reads (0,2,1) up to turning round
+-- 7: no triangle is (0,2,1), turned in any way
 unfoldable pub outerFault : (ℕ → ℕ → ℕ) → Bool
 outerFault x = not (eqb (x 0 2) 1)
 
--- 8: "some vertex is in no triangle, or a turn round it doesn't meet all its triangles"
+-- 8: v has no triangle, or a turn round it misses one
 unfoldable pub turnFault : ℕ → (ℕ → ℕ → ℕ) → ℕ → Bool
 turnFault n x v = not (some (isNeighbour n x v) n) || some (λ b. isNeighbour n x v b && not (meets n x v b)) n
 
--- 9: "wood indices 0 to 8 differ from the above, or a target is n or more"
+-- 9: one of the anchors' nine indices holds something else, or a target is no vertex
 abbrev pub anchorEdgeFault : List ℕ → ℕ → Bool
 anchorEdgeFault ws i = not (eqb (target ws i) (at anchorTargets i))
 
@@ -49,7 +49,7 @@ targetFault n ws e = leb 9 e && leb n (target ws e)
 unfoldable pub woodFault : ℕ → List ℕ → Bool
 woodFault n ws = some (anchorEdgeFault ws) 9 || some (targetFault n ws) (3 * n)
 
--- 10: "an edge joins no two neighbours, or two edges join the same pair", here e and a lower one
+-- 10: edge e joins vertices that are not neighbours; or it joins a pair that a lower edge joins
 abbrev pub joinFault : ℕ → (ℕ → ℕ → ℕ) → List ℕ → ℕ → Bool
 joinFault n x ws e = used e && not (isNeighbour n x (source e) (target ws e))
 
@@ -59,7 +59,7 @@ pairFault ws e = used e && some (λ d. used d && samePair ws d e) e
 unfoldable pub edgeFault : ℕ → (ℕ → ℕ → ℕ) → List ℕ → Bool
 edgeFault n x ws = some (joinFault n x ws) (3 * n) || some (pairFault ws) (3 * n)
 
--- 11: "an edge 9 or above that ends at an anchor has that anchor's number as its colour"
+-- 11: an inner vertex's edge e ends at an anchor of another number than its colour
 abbrev pub anchorFault : List ℕ → ℕ → Bool
 anchorFault ws e = leb 9 e && (ltb (target ws e) 3 && not (eqb (colour e) (target ws e)))
 
@@ -67,7 +67,7 @@ anchorFault ws e = leb 9 e && (ltb (target ws e) 3 && not (eqb (colour e) (targe
 abbrev pub turnRuleFault : ℕ → (ℕ → ℕ → ℕ) → List ℕ → ℕ → Bool
 turnRuleFault n x ws v = leb 3 v && not (turnRule 0 (labelsRound n x ws v))
 
--- 13: "from each inner vertex, following one colour c ends at anchor c": n steps suffice, since a path that repeats no vertex is shorter
+-- 13: from v some colour does not come to its anchor; n steps suffice, since a path that ends repeats no vertex
 unfoldable pub pathFault : ℕ → List ℕ → ℕ → Bool
 pathFault n ws v = leb 3 v && some (λ c. not (eqb (iterate (along ws c) n v) c)) 3
 

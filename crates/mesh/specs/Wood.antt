@@ -19,7 +19,7 @@ target ws j = at ws j
 abbrev pub edgeOf : ℕ → ℕ → ℕ
 edgeOf v c = 3 * v + c
 
--- "For anchors only edges 3 (to 0), 6 (to 0) and 7 (to 1) exist. Indices 0, 1, 2, 4, 5, 8 are unused and hold 65,535."
+-- what the anchors' nine indices hold: edges 3 and 6 end at 0, edge 7 at 1, and the rest are unused
 abbrev pub anchorTargets : List ℕ
 anchorTargets = unusedMark ∷ unusedMark ∷ unusedMark ∷ 0 ∷ unusedMark ∷ unusedMark ∷ 0 ∷ 1 ∷ unusedMark ∷ []
 
@@ -58,8 +58,8 @@ unfoldable pub samePair : List ℕ → ℕ → ℕ → Bool
 samePair ws d e =
     eqb (source d) (source e) && eqb (target ws d) (target ws e) || eqb (source d) (target ws e) && eqb (target ws d) (source e)
 
--- "one turn round an inner vertex, starting at its outgoing edge of colour 0, meets: out 0, any number in 2, out 1, any number
--- in 0, out 2, any number in 1": the labels still to come, when s edges out have been met
+-- the turn rule (SPECIFICATION, section 3) of the labels still to come, when s edges out have been met: they come out in the order of
+-- their colours, and behind the edge out of colour s - 1 only edges in of colour s + 1 come in
 unfoldable pub turnRule : ℕ → List Label → Bool
 turnRule s [] = eqb s 3
 turnRule s (out c ∷ ls) = eqb c s && turnRule (suc s) ls

@@ -1,6 +1,6 @@
 -- The tables of a check, place by place: a table holds what it should at each place, and one of just the right length is the list.
 use Prim.Native.Nat.{ℕ, _*_}
-use mathlib.Core.Path.{_≡_, ap, _∙_}
+use mathlib.Core.Path.{_≡_}
 use mathlib.Core.List.{List}
 use lib.ListN.{length}
 use Rattle.mesh.specs.Limits.{unusedMark}

@@ -7,7 +7,7 @@ use native.Mathlib.Omega.{arith}
 use lib.ListN.{length, replicate}
 use borrow.Author.Tests.{ne-eqb, lt-ltb, le-ltb}
 use Rattle.mesh.specs.Limits.{unusedMark}
-use Rattle.tables.specs.declared.outcome.Outcome.the-variants.{Done, Refused}
+use Rattle.tables.specs.declared.outcome.Outcome.the-variants.{Refused}
 use Rattle.tables.specs.Outcome.{outcome, leaves}
 
 -- a refusal's number is not 0, and is carried

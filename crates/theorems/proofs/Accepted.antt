@@ -1,24 +1,24 @@
 -- From the verdict to the geometry: an accepted mesh is a rotation system (`surface`) whose wood is Marked (`marked`). Each fact
 -- is one fault that does not apply, read as a sentence; the law at inner vertices is the turn rule carried from the labels that
 -- one turn meets to the positions of the table.
-use Prim.Native.Nat.{ℕ, suc, _+_, _-_, _*_, _/_, _%_, _≤_, _<_}
+use Prim.Native.Nat.{ℕ, suc, _+_, _-_, _*_, _/_, _≤_, _<_}
 use mathlib.Core.Path.{_≡_, refl, sym, ap, _∙_, subst}
 use mathlib.Core.List.{List}
-use mathlib.Core.Bool.{true, false, not, _&&_, _||_}
+use mathlib.Core.Bool.{true, false, _||_}
 use native.Mathlib.Omega.{arith}
 use lib.ListN.{length}
-use lib.Dec.{leb, ltb, eqb}
-use borrow.Author.Tests.{ltb-false, leb-false, le-leb, eqb-true, lt-ltb, eq-eqb, not-false}
-use Rattle.mesh.specs.Search.{first, firstFrom, some, every, iterate, tabulate}
-use Rattle.mesh.specs.Limits.{at, unusedMark, fewestVertices, mostVertices, outOfRange, trianglesLength, woodLength}
-use Rattle.mesh.specs.Sides.{next, from, to, sideAt, third, isNeighbour, turnLength}
+use lib.Dec.{leb, eqb}
+use borrow.Author.Tests.{leb-false, le-leb, eqb-true, lt-ltb, not-false}
+use Rattle.mesh.specs.Search.{first, firstFrom, every, iterate, tabulate}
+use Rattle.mesh.specs.Limits.{at, unusedMark, fewestVertices, mostVertices, trianglesLength, woodLength}
+use Rattle.mesh.specs.Sides.{next, from, to, sideAt, third, turnLength}
 use Rattle.mesh.specs.Wood.{Label, out, source, target, edgeOf, anchorTargets, used, labelOf, samePair, turnRule, labelsRound}
-use Rattle.mesh.specs.Verdict.{wrongLengths, outerFault, anchorEdgeFault, targetFault, woodFault, joinFault, pairFault, edgeFault, anchorFault, turnRuleFault, Clear}
+use Rattle.mesh.specs.Verdict.{outerFault, Clear}
 use Rattle.mesh.specs.Mesh.{AnchorEdges, TargetsBelow, AnchorRule}
 use Rattle.mesh.proofs.Limits.{in-range}
 use Rattle.mesh.proofs.Ladder.{free}
-use Rattle.mesh.proofs.Tests.{byBool, clash, and-true, and-fails, or-false, or-true, or-right, by-order}
-use Rattle.mesh.proofs.Search.{some-none, every-at}
+use Rattle.mesh.proofs.Tests.{byBool, clash, or-true, by-order}
+use Rattle.mesh.proofs.Search.{every-at}
 use Rattle.mesh.proofs.Iterate.{iterate-zero, iterate-step}
 use Rattle.mesh.proofs.Positions.{next-in, next-div, next-3, same-triangle, sideAt-law}
 use Rattle.mesh.specs.Paired.{Paired, twin, turn}

@@ -1,5 +1,4 @@
--- Demand 2: "For an accepted mesh every question (source, target, four neighbouring edges) has the answer that the triangles give;
--- Target also reports its reads, at most the target vertex's neighbours less one."
+-- Demand 2: the array of an accepted mesh answers every question about an edge as its triangles do, and Target says how often it read.
 -- `quick-as-slow` says it for every edge; `has-corners` says that every edge has a triangle on both sides, so nothing is left out.
 use Prim.Native.Nat.{ℕ, _+_, _*_, _<_}
 use mathlib.Core.Path.{_≡_, refl, sym, ap, _∙_, subst}

@@ -41,7 +41,7 @@ pub rebuilt-accepted : (n : ℕ) (refs : List ℕ) → rebuildSays n refs ≡ 0
     × (referencesOf n (rebuiltTriangles n refs) (rebuiltWood n refs) ≡ refs)
 rebuilt-accepted n refs e = says-0 n refs e
 
--- 18: "no accepted mesh has this reference array", and no other array meets it
+-- 18 exactly for the arrays that no accepted mesh has
 pub rebuild-exact : (n : ℕ) (refs : List ℕ)
     → (rebuildSays n refs ≡ 18) ↔ ((ts ws : List ℕ) → verdict n ts ws ≡ 0 → referencesOf n ts ws ≡ refs → ⊥)
 rebuild-exact n refs = (none, refused (rebuild-says n refs))

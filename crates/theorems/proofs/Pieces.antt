@@ -15,7 +15,7 @@ pub pieces : found ≡ expected
 unfolding verdict referencesOf serviceOf readTarget readRightBack
 pieces = refl
 
--- "Every local rule holds and no path ends: 13"
+-- every local rule holds and no path ends
 pub ring-apart : says ringApart ≡ 13 ∷ []
 unfolding verdict gather gatherFrom
 ring-apart = refl

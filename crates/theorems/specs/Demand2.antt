@@ -19,11 +19,11 @@ pub record AnswersEdgeJoining (n : ℕ) (ws : List ℕ) (a b : ℕ) (answer : Li
 -- Every question about edge j, put to the array of the mesh (ts, ws), where w is the third corner left of j and z right of it.
 pub record AnswersAsTriangles (n : ℕ) (ts ws : List ℕ) (j w z : ℕ) : Type 0 where
   pub source-is : readSource n j ≡ 0 ∷ source j ∷ []
-  -- "Target also reports its reads, at most the target vertex's neighbours less one"
+  -- Target carries its reads, fewer than its target has neighbours
   pub reads : ℕ
   pub target-is : readTarget n (referencesOf n ts ws) (serviceOf n ts ws) j ≡ 0 ∷ target ws j ∷ reads ∷ []
   pub few-reads : reads ≤ neighbours n (third ts) (target ws j) - 1
-  -- "LeftFront joins v and w, RightFront v and z, LeftBack u and w, RightBack u and z"
+  -- the Fronts join the target with the corner on their hand, the Backs the source with it
   pub left-front : AnswersEdgeJoining n ws (target ws j) w (readLeftFront n (referencesOf n ts ws) (serviceOf n ts ws) j)
   pub right-front : AnswersEdgeJoining n ws (target ws j) z (readRightFront n (referencesOf n ts ws) (serviceOf n ts ws) j)
   pub left-back : AnswersEdgeJoining n ws (source j) w (readLeftBack n (referencesOf n ts ws) (serviceOf n ts ws) j)

@@ -1,4 +1,4 @@
--- Document 01's pieces. P1 to P10 as one list: what the definitions find, and what the paper says. Then the pieces that P does not mark.
+-- The pieces (SPECIFICATION, section 13). P1 to P10 as one list: what the definitions find, and what they are to find. Then the others.
 use Prim.Native.Nat.{ℕ, _+_, _%_}
 use mathlib.Core.List.{List, [], _∷_, _++_}
 use lib.ListN.{drop}
@@ -71,11 +71,11 @@ expected =
     (11 ∷ []) ∷ (7 ∷ []) ∷
     (0 ∷ []) ∷ (0 ∷ 3 ∷ 2 ∷ []) ∷ (12 ∷ []) ∷ []
 
--- "A ring apart, n=10": "sums modulo 7 then raised by 3"
+-- a ring apart: seven vertices 3 to 9 in a ring, counted round
 abbrev pub raised : ℕ → ℕ
 raised i = i % 7 + 3
 
--- "with i from 0 to 6 .., (i,i+1,i+3) and (i,i+3,i+2); targets of i are i+1, i+2, i+4"
+-- two triangles at each step, and targets one, two and four steps on
 abbrev pub ringTriangles : List ℕ
 ringTriangles = gather (λ i. raised i ∷ raised (i + 1) ∷ raised (i + 3) ∷ raised i ∷ raised (i + 3) ∷ raised (i + 2) ∷ []) 7
 
@@ -85,7 +85,7 @@ ringTargets = gather (λ i. raised (i + 1) ∷ raised (i + 2) ∷ raised (i + 4)
 abbrev pub ringApart : Piece
 ringApart = record { n = 10; triangles = 0 ∷ 1 ∷ 2 ∷ 0 ∷ 2 ∷ 1 ∷ ringTriangles; targets = ringTargets }
 
--- "With (3,4,6) replaced by (0,3,4)": it is the first
+-- the same with its first triangle, (3,4,6), made (0,3,4)
 abbrev pub ringTorn : Piece
 ringTorn = record { n = 10; triangles = 0 ∷ 1 ∷ 2 ∷ 0 ∷ 2 ∷ 1 ∷ 0 ∷ 3 ∷ 4 ∷ drop 3 ringTriangles; targets = ringTargets }
 
@@ -95,6 +95,6 @@ octahedron a b c d =
     0 ∷ a ∷ b ∷ 0 ∷ b ∷ c ∷ 0 ∷ c ∷ d ∷ 0 ∷ d ∷ a ∷
     3 ∷ b ∷ a ∷ 3 ∷ c ∷ b ∷ 3 ∷ d ∷ c ∷ 3 ∷ a ∷ d ∷ []
 
--- "Two octahedra sharing only their poles 0 and 3, n=10, equators 2,1,4,5 and 6,7,8,9"
+-- two octahedra that have only their poles 0 and 3 in common
 abbrev pub twoOctahedra : List ℕ
 twoOctahedra = octahedron 2 1 4 5 ++ octahedron 6 7 8 9

@@ -1,11 +1,10 @@
 -- A verdict of 0 is a mesh, sentence by sentence, and back, by the ties of the numbers one after the other. The reach has no test: it is
 -- proved from the path rule, and where the mesh is given it is not needed.
-use Prim.Native.Nat.{ℕ, _-_, _*_, _≤_, _<_}
+use Prim.Native.Nat.{ℕ, _-_, _*_, _≤_}
 use mathlib.Core.Path.{_≡_, ap, _∙_}
 use mathlib.Core.List.{List}
 use mathlib.Core.Logic.{inr}
 use native.Mathlib.Omega.{arith}
-use lib.ListN.{length}
 use Rattle.mesh.specs.Limits.{unusedMark}
 use Rattle.mesh.specs.Sides.{next, from}
 use Rattle.mesh.specs.Paired.{Paired}

@@ -1,6 +1,6 @@
 -- Numbers 12 and 13, each with the rule that it is met for want of: the fault is absent exactly when the rule holds at every inner
 -- vertex. 12 needs what 3 to 6, 9 and 10 leave, so that labels are the edges that they stand for; 13 needs that targets are vertices.
-use Prim.Native.Nat.{ℕ, _*_, _≤_, _<_}
+use Prim.Native.Nat.{ℕ, _≤_, _<_}
 use mathlib.Core.Path.{_≡_, subst}
 use mathlib.Core.List.{List}
 use mathlib.Core.Bool.{false}

@@ -1,5 +1,5 @@
 -- What an accepted mesh writes at each place of its references. The place of position p (left or right of its edge) reads the two
--- other edges of p's triangle, so "the smallest index among its three edges" holds there exactly when p is the lowest position
+-- other edges of p's triangle, so its edge is the lowest of the three there exactly when p is the lowest position
 -- of its triangle, and what is then written are the three corners from p on. Every place of an edge is the place of a position.
 use Prim.Native.Nat.{ℕ, _+_, _*_, _/_, _%_, _<_}
 use mathlib.Core.Path.{_≡_, refl, sym, ap, _∙_}
