@@ -11,4 +11,5 @@ pub mod Labels
 pub mod Rules
 pub mod Meshes
 pub mod Numbers
+pub mod Carried
 pub mod Euler

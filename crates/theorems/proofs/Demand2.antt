@@ -1,33 +1,30 @@
 -- Demand 2: the array of an accepted mesh answers every question about an edge as its triangles do, and Target says how often it read.
 -- `quick-as-slow` says it for every edge; `has-corners` says that every edge has a triangle on both sides, so nothing is left out.
-use Prim.Native.Nat.{ℕ, _+_, _*_, _<_}
-use mathlib.Core.Path.{_≡_, refl, sym, ap, _∙_, subst}
+use Prim.Native.Nat.{ℕ, _*_, _<_}
+use mathlib.Core.Path.{_≡_, refl, ap, _∙_}
 use mathlib.Core.List.{List, [], _∷_}
 use mathlib.Core.Bool.{Bool, true, false, _&&_}
-use mathlib.Core.Logic.{_≢_, inl, inr}
 use native.Mathlib.Omega.{arith}
 use lib.ListN.{length}
 use lib.Dec.{ltb, eqb}
 use borrow.Author.Tests.{lt-ltb, eq-eqb}
 use Rattle.mesh.specs.Limits.{outOfRange, referencesLength, serviceLength}
 use Rattle.mesh.specs.Sides.{next, from, to, third}
-use Rattle.mesh.specs.Wood.{bare, source, target, used, isEdge, labelOf, edgeBy, edgeAt}
+use Rattle.mesh.specs.Wood.{source, target, used, isEdge, edgeAt}
 use Rattle.mesh.specs.Verdict.{verdict, Clear}
-use Rattle.mesh.specs.Mesh.{Triangle, Edge, Joins}
+use Rattle.mesh.specs.Mesh.{Triangle, Edge}
 use Rattle.mesh.specs.Array.{Hand, left, right, cornerOn, front, back, referencesOf, serviceOf}
 use Rattle.mesh.specs.Reading.{frontsIn, bytesIn, asked, frontAnswer, backAnswer, targetAnswer, readSource, readFront, readBack, readTargetOf, readTarget, readLeftFront, readRightFront, readLeftBack, readRightBack}
 use Rattle.mesh.proofs.Ladder.{free}
 use Rattle.mesh.proofs.Tests.{and-of}
 use Rattle.mesh.specs.Paired.{twin, turn}
-use Rattle.mesh.proofs.Paired.{third-is, twin-from, twin-to, to-in, next-within, turn-in, turn-from, turn-to}
-use Rattle.mesh.proofs.TurnRule.{byLabel}
+use Rattle.mesh.proofs.Paired.{third-is, twin-from, twin-to, next-within, turn-in, turn-from, turn-to}
 use Rattle.mesh.proofs.Verdict.{verdict-clear, clear-verdict}
 use Rattle.theorems.specs.Demand2.{AnswersEdgeJoining, AnswersAsTriangles}
-use Rattle.mesh.proofs.Labels.{label-is-out, label-is-into}
-use Rattle.theorems.proofs.Marked.{label, all-labelled}
-use Rattle.theorems.proofs.Accepted.{pairs, surface, marked, used-low}
+use Rattle.theorems.proofs.Accepted.{pairs}
 use Rattle.theorems.proofs.Acceptance.Corners.{triangle-third}
-use Rattle.theorems.proofs.Acceptance.Edges.{edge-used, used-edge}
+use Rattle.theorems.proofs.Acceptance.Edges.{edge-used}
+use Rattle.theorems.proofs.Acceptance.Carried.{side-joined}
 use Rattle.theorems.proofs.Acceptance.Meshes.{accepted-is-mesh}
 use Rattle.theorems.proofs.Fronts.{references-length, service-length}
 use Rattle.theorems.proofs.Answers.{stands, front-answer, back-answer, target-found}
@@ -56,31 +53,11 @@ module _ (n : ℕ) (ts ws : List ℕ) (A : Clear n ts ws) where
         record { position = q; within = P .twin-in p (s .within); first-is = twin-from n ts P p (s .within) ∙ s .ends; second-is = twin-to n ts P p (s .within) ∙ s .starts; third-is = refl },
       )
 
-  -- the edge that joins the two ends of a side, seen from either end
-  ends-joined : (a b : ℕ) → a < n → b < n → labelOf ws a b ≢ bare
-      → Edge n (edgeBy a b (labelOf ws a b)) × Joins ws (edgeBy a b (labelOf ws a b)) a b
-  ends-joined a b la lb full =
-      byLabel (labelOf ws a b)
-      (λ c e.
-      let t = label-is-out ws a b c e in
-      let k = t .0 in
-      let w : target ws (3 * a + c) < n = subst (λ x. x < n) (sym (t .1)) lb in
-      rw e (used-edge n (3 * a + c) (used-low n ts ws A (3 * a + c) w) (omega arith), inl (omega arith, t .1)))
-      (λ c e.
-      let t = label-is-into ws a b c e in
-      let k = t .0 in
-      let w : target ws (3 * b + c) < n = subst (λ x. x < n) (sym (t .1)) la in
-      rw e (used-edge n (3 * b + c) (used-low n ts ws A (3 * b + c) w) (omega arith), inr (omega arith, t .1)))
-      (λ e. absurd (full e))
-
   -- it is an edge, it joins them, and no other does
   joined : (a b : ℕ) (answer : List ℕ) (p : ℕ) → p < length ts → from ts p ≡ a → to ts p ≡ b
       → answer ≡ 0 ∷ edgeAt ws a b ∷ [] → AnswersEdgeJoining n ws a b answer
-  unfolding edgeAt label
   joined a b answer p l f g h =
-      let P = pairs n ts ws A in
-      let t = ends-joined a b (subst (λ x. x < n) f (P .corner p l)) (subst (λ x. x < n) g (to-in n ts P p l))
-      (λ e. all-labelled (surface n ts ws A) n ws (marked n ts ws A) p l (rw (f, g) e)) in
+      let t = side-joined n ts ws A a b (record { position = p; within = l; starts = f; ends = g }) in
       record {
         edge = edgeAt ws a b;
         is-edge = t .0;

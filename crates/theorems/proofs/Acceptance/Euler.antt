@@ -4,7 +4,6 @@ use Prim.Native.Nat.{ℕ, zero, suc, _+_, _-_, _*_, _≤_, _<_}
 use mathlib.Core.Path.{_≡_, refl, sym, ap, _∙_}
 use mathlib.Core.List.{List}
 use mathlib.Core.Bool.{Bool, not}
-use mathlib.Core.Logic.{inl, inr}
 use native.Mathlib.Omega.{arith}
 use native.Mathlib.Nat.{add-suc}
 use lib.ListN.{length}
@@ -12,21 +11,16 @@ use lib.Dec.{leb, ltb}
 use borrow.Author.Tests.{ltb-true, ltb-false, lt-ltb, le-ltb, le-leb}
 use Rattle.mesh.specs.Search.{count}
 use Rattle.mesh.specs.Sides.{from, to}
-use Rattle.mesh.specs.Wood.{used, isEdge, labelOf}
-use Rattle.mesh.specs.Verdict.{verdict, Clear}
-use Rattle.mesh.specs.Mesh.{Side, Edge, Joins}
+use Rattle.mesh.specs.Wood.{used, isEdge, edgeAt}
+use Rattle.mesh.specs.Verdict.{verdict}
 use Rattle.mesh.proofs.Tests.{byBool, or-left}
 use Rattle.mesh.proofs.Count.{count-cong, count-inj}
 use Rattle.mesh.specs.Paired.{Paired, twin}
 use Rattle.mesh.proofs.Paired.{twin-from, twin-to, twin-2}
-use Rattle.mesh.proofs.TurnRule.{byLabel}
 use Rattle.mesh.proofs.Verdict.{verdict-clear}
 use Rattle.theorems.specs.Euler.{Euler}
-use Rattle.mesh.proofs.Labels.{label-is-out, label-is-into}
-use Rattle.theorems.proofs.Marked.{label, all-labelled}
-use Rattle.theorems.proofs.Accepted.{enough, triangles-length, pairs, used-low, surface, marked}
-use Rattle.theorems.proofs.Acceptance.Corners.{starts-below, ends-below}
-use Rattle.theorems.proofs.Acceptance.Edges.{used-edge}
+use Rattle.theorems.proofs.Acceptance.Carried.{side-joined}
+use Rattle.theorems.proofs.Accepted.{enough, triangles-length, pairs}
 use Rattle.theorems.proofs.Acceptance.Meshes.{accepted-is-mesh}
 
 -- what passes and what does not are all
@@ -75,25 +69,6 @@ module _ (n : ℕ) (ts : List ℕ) (P : Paired n ts) where
       (λ p q l g _ _. twin-inj p q l g) in
       omega (arith, count-both up (length ts))
 
--- every side carries an edge
-side-carries : (n : ℕ) (ts ws : List ℕ) → Clear n ts ws → (a b : ℕ) → Side ts a b → (e : ℕ) × Edge n e × Joins ws e a b
-unfolding label
-side-carries n ts ws A a b s =
-    let R = surface n ts ws A in
-    let p : ℕ = s .position in
-    let la = starts-below n ts (pairs n ts ws A) a b s in
-    let lb = ends-below n ts (pairs n ts ws A) a b s in
-    byLabel (labelOf ws a b)
-    (λ c q.
-    let t = label-is-out ws a b c q in
-    let k = t .0 in
-    (3 * a + c, used-edge n (3 * a + c) (used-low n ts ws A (3 * a + c) (omega (arith, t .1))) (omega arith), inl (omega arith, t .1)))
-    (λ c q.
-    let t = label-is-into ws a b c q in
-    let k = t .0 in
-    (3 * b + c, used-edge n (3 * b + c) (used-low n ts ws A (3 * b + c) (omega (arith, t .1))) (omega arith), inr (omega arith, t .1)))
-    (λ q. absurd (all-labelled R n ws (marked n ts ws A) p (s .within) (ap (λ x. labelOf ws x (to ts p)) (s .starts) ∙ ap (labelOf ws a) (s .ends) ∙ q)))
-
 pub euler : (n : ℕ) (ts ws : List ℕ) → verdict n ts ws ≡ 0 → Euler n ts ws
 euler n ts ws e =
     let A = verdict-clear n ts ws e in
@@ -102,7 +77,7 @@ euler n ts ws e =
     record {
       edges = edge-count n h;
       pairs = (let d = half n ts (pairs n ts ws A) in omega arith);
-      carried = side-carries n ts ws A;
+      carried = λ a b s. let c = side-joined n ts ws A a b s in (edgeAt ws a b, c .0, c .1);
       triangles = omega arith;
       count-is = omega arith;
       reached = accepted-is-mesh n ts ws e .reach;
