@@ -3,13 +3,20 @@
 use crate::slow::{used, Array, FEWEST, MOST};
 
 pub const UNKNOWN_EDGE: u8 = 14;
+pub const UNKNOWN_VERTEX: u8 = 15;
 pub const TORN: u8 = 16;
+
+fn in_range(array: &Array) -> Result<(), u8> {
+    if array.n < FEWEST || array.n > MOST {
+        Err(1)
+    } else {
+        Ok(())
+    }
+}
 
 /// "Questions meet 1, 2, then 14".
 fn asked(array: &Array, j: usize) -> Result<(), u8> {
-    if array.n < FEWEST || array.n > MOST {
-        return Err(1);
-    }
+    in_range(array)?;
     if array.references.len() != 6 * array.n || array.service.len() != 3 * array.n {
         return Err(2);
     }
@@ -50,6 +57,16 @@ fn consult(array: &Array, j: usize) -> Result<u8, u8> {
 pub fn source(array: &Array, j: usize) -> Result<usize, u8> {
     asked(array, j)?;
     Ok(j / 3)
+}
+
+/// Edge of vertex u. It reads no table, so it meets 1 and 15 alone.
+pub fn edge(array: &Array, u: usize) -> Result<usize, u8> {
+    in_range(array)?;
+    match u {
+        _ if u >= array.n => Err(UNKNOWN_VERTEX),
+        0 => Ok(3),
+        _ => Ok(3 * u),
+    }
 }
 
 pub fn left_front(array: &Array, j: usize) -> Result<usize, u8> {

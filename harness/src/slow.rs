@@ -261,6 +261,15 @@ pub fn answers(mesh: &Mesh, j: usize) -> Answers {
     }
 }
 
+/// The edge that stands for u: of the edges between u and the other corners of its triangles the lowest that leaves u; at 0, which
+/// none leaves, the lowest of all.
+pub fn edge_of(mesh: &Mesh, u: u16) -> usize {
+    let corners = mesh.triangles.iter().filter(|t| t.contains(&u)).flatten();
+    let edges: Vec<usize> = corners.filter(|&&x| x != u).map(|&x| joins(mesh, u, x)).collect();
+    let leaving = edges.iter().filter(|&&e| source(e) == u).min();
+    *leaving.or(edges.iter().min()).expect("each vertex of an accepted mesh is in a triangle")
+}
+
 /// Steps clockwise round the target v of j, to the other end of the edge that tells v: edge 3 at anchor 0, edge 7 at anchor 1,
 /// elsewhere the edge of colour c+1 that leaves v.
 fn reads(mesh: &Mesh, j: usize) -> usize {

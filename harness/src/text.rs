@@ -134,20 +134,24 @@ pub fn write_array(array: &Array) -> Vec<u8> {
     text.into_bytes()
 }
 
-/// What `answers` writes about an array: a line for each index from 0 to 3n.
+/// What `answers` writes: a line for each index from 0 to 3n, then one for each vertex from 0 to n.
+pub fn answer_lines(n: usize, about_edge: impl Fn(usize) -> String, about_vertex: impl Fn(usize) -> String) -> Vec<u8> {
+    let edges = (0..=3 * n).map(|j| format!("06{j:03X}{}\n", about_edge(j)));
+    let vertices = (0..=n).map(|u| format!("07{u:03X}{}\n", about_vertex(u)));
+    edges.chain(vertices).collect::<String>().into_bytes()
+}
+
+/// The lines of an array, by its readings.
 pub fn write_answers(array: &Array) -> Vec<u8> {
-    let mut text = String::new();
-    for j in 0..=3 * array.n {
-        text += &format!("06{j:03X}");
-        text += &plain(reading::source(array, j));
-        text += &with_reads(reading::target(array, j));
-        text += &plain(reading::left_front(array, j));
-        text += &plain(reading::right_front(array, j));
-        text += &plain(reading::left_back(array, j));
-        text += &plain(reading::right_back(array, j));
-        text.push('\n');
-    }
-    text.into_bytes()
+    let about_edge = |j: usize| {
+        let mut line = plain(reading::source(array, j));
+        line += &with_reads(reading::target(array, j));
+        line += &plain(reading::left_front(array, j));
+        line += &plain(reading::right_front(array, j));
+        line += &plain(reading::left_back(array, j));
+        line + &plain(reading::right_back(array, j))
+    };
+    answer_lines(array.n, about_edge, |u| plain(reading::edge(array, u)))
 }
 
 /// An answer: 0 and the value in three digits; F0 and the refusal's number in two.
