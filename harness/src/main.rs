@@ -5,6 +5,7 @@ mod cases;
 mod clock;
 mod compare;
 mod damage;
+mod examples;
 mod generate;
 mod oracle;
 mod pieces;
@@ -25,6 +26,7 @@ mod torn;
 mod wood;
 
 use std::io::{Read, Write};
+use std::path::Path;
 use std::process::ExitCode;
 
 use cases::Kind;
@@ -44,7 +46,9 @@ const WORKERS: usize = 2;
 
 const USAGE: &str = "\
 harness check [--run COMMAND] [--seed NUMBER] [--only PROGRAM]
-    what the gate compares; COMMAND followed by a program's name runs that program
+    what the gate compares; COMMAND runs a program: its name stands for {} in it, or follows it
+harness examples [--run COMMAND]
+    every text of examples/ with meshlines, held to the table there
 harness long --seed NUMBER --count NUMBER [--run COMMAND] [--only PROGRAM]
     so many items of all kinds, with a progress line
 harness bench [--run COMMAND] [--plain COMMAND] [--seed NUMBER]
@@ -68,6 +72,7 @@ fn run(words: &[String]) -> Result<bool, String> {
     let options = Options::read(words.get(1..).unwrap_or_default())?;
     match words.first().map(String::as_str) {
         Some("check") => Ok(check(&options)),
+        Some("examples") => examples(&options),
         Some("long") => Ok(long(&options)),
         Some("bench") => bench(&options),
         Some("act") => act(options.only.ok_or("which program?")?),
@@ -128,6 +133,12 @@ fn check(options: &Options) -> bool {
     start(options, items, true)
 }
 
+fn examples(options: &Options) -> Result<bool, String> {
+    let runner = Runner::new(&options.run);
+    runner.ready(Program::Meshlines)?;
+    examples::examples(Path::new("examples"), |text| runner.run(Program::Meshlines, text))
+}
+
 /// Items in the shares that the gate has, the large ones few.
 fn long(options: &Options) -> bool {
     let kinds = [Kind::Accepted, Kind::Damaged, Kind::Torn, Kind::Torn, Kind::HouseText, Kind::ArrayText, Kind::Accepted];
@@ -139,7 +150,7 @@ fn start(options: &Options, items: Vec<(Kind, usize)>, gate: bool) -> bool {
     let runner = Runner::new(&options.run);
     let programs = options.programs();
     for &program in &programs {
-        if let Err(failure) = runner.run(program, b"00002\n") {
+        if let Err(failure) = runner.ready(program) {
             println!("harness: {} cannot be run: {failure}", program.name());
             return false;
         }
