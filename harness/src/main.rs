@@ -29,6 +29,7 @@ use std::io::{Read, Write};
 use std::path::Path;
 use std::process::ExitCode;
 
+use bench::Bench;
 use cases::Kind;
 use compare::{compare, Plan};
 use oracle::{expected, Program, PROGRAMS};
@@ -43,6 +44,8 @@ const TORN: usize = 2_000;
 const ARRAY_TEXTS: usize = 200;
 const SEED: u64 = 1;
 const WORKERS: usize = 2;
+/// Of each program, where times are measured.
+const RUNS: usize = 60;
 
 const USAGE: &str = "\
 harness check [--run COMMAND] [--seed NUMBER] [--only PROGRAM]
@@ -51,8 +54,8 @@ harness examples [--run COMMAND]
     every text of examples/ with meshlines, held to the table there
 harness long --seed NUMBER --count NUMBER [--run COMMAND] [--only PROGRAM]
     so many items of all kinds, with a progress line
-harness bench [--run COMMAND] [--plain COMMAND] [--seed NUMBER]
-    times and ratios; the second COMMAND runs the baseline in C
+harness bench [--run COMMAND] [--plain COMMAND] [--seed NUMBER] [--runs NUMBER]
+    times and ratios, the least of so many runs; the second COMMAND runs the baseline in C
 harness act PROGRAM
     the slow engine in the program's place: standard input to standard output";
 
@@ -84,13 +87,14 @@ struct Options {
     run: String,
     seed: u64,
     count: usize,
+    runs: usize,
     only: Option<Program>,
     plain: Option<String>,
 }
 
 impl Options {
     fn read(words: &[String]) -> Result<Options, String> {
-        let mut options = Options { run: "tools/run".into(), seed: SEED, count: 10_000, only: None, plain: None };
+        let mut options = Options { run: "tools/run".into(), seed: SEED, count: 10_000, runs: RUNS, only: None, plain: None };
         let mut words = words.iter();
         while let Some(word) = words.next() {
             if let Some(program) = program(word) {
@@ -102,6 +106,9 @@ impl Options {
                 "--run" => options.run = value.clone(),
                 "--seed" => options.seed = value.parse().map_err(|_| "the seed is a number")?,
                 "--count" => options.count = value.parse().map_err(|_| "the count is a number")?,
+                "--runs" => {
+                    options.runs = value.parse().ok().filter(|&runs| runs > 0).ok_or("the runs are a number, 1 or more")?
+                }
                 "--plain" => options.plain = Some(value.clone()),
                 "--only" => options.only = Some(program(value).ok_or("no such program")?),
                 _ => return Err(format!("no such word: {word}")),
@@ -160,8 +167,9 @@ fn start(options: &Options, items: Vec<(Kind, usize)>, gate: bool) -> bool {
 }
 
 fn bench(options: &Options) -> Result<bool, String> {
-    let plain = options.plain.as_deref().map(Runner::new);
-    bench::bench(&Runner::new(&options.run), plain.as_ref(), options.seed)?;
+    let (engine, plain) = (Runner::new(&options.run), options.plain.as_deref().map(Runner::new));
+    PROGRAMS.into_iter().try_for_each(|program| engine.ready(program))?;
+    bench::bench(&Bench { engine: &engine, plain: plain.as_ref(), seed: options.seed, runs: options.runs })?;
     Ok(true)
 }
 
