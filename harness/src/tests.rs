@@ -27,7 +27,7 @@ fn pieces_meet_their_numbers() {
 }
 
 #[test]
-fn pieces_answer_as_document_01_says() {
+fn pieces_answer_as_they_must() {
     let four = build(&pieces::four());
     assert_eq!(reading::target(&four, 6), Ok((0, 2)));
     assert_eq!(reading::target(&four, 3), Ok((0, 0)));
