@@ -8,7 +8,8 @@ typedef unsigned char u8;
 long read(int, void *, unsigned long);
 long write(int, const void *, unsigned long);
 
-enum { MOST = 1024, UNUSED = 65535, LONGEST = 36786, HEAD = 6, FRAME = 12, EDGE_FRAME = 13 };
+enum { MOST = 1024, UNUSED = 65535, HEAD = 6, FRAME = 12, EDGE_FRAME = 13 };
+enum { LONGEST = HEAD + FRAME * (2 * MOST - 4 + MOST - 3) };
 
 static u8 text[LONGEST + 1], out[HEAD + EDGE_FRAME * 3 * MOST];
 static u16 ts[3 * (LONGEST / FRAME + 1)], ws[9 + 3 * (LONGEST / FRAME + 1)];
@@ -122,7 +123,7 @@ static int path_broken(int c) {
     return 0;
 }
 
-/* 9 to 13; the reader supplies the anchors' nine */
+/* 9 to 13; the anchors' nine are read_text's own */
 static int check_wood(void) {
     for (int e = 9; e < 3 * n; e++)
         if (ws[e] >= n) return 9;

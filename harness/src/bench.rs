@@ -1,55 +1,91 @@
 //! Benchmarks: ratios within one run, and how times grow with n. Never a pass or a failure.
 //!
-//! The engine is timed through its programs; the text in and out is part of it. What a program takes for a mesh of eight vertices
-//! is taken off: its start, and where it is emulated the translation of its code. The slow engine and the plain baseline in Rust
-//! run in this process, the baseline in C as a program of its own.
+//! Programs are timed as a whole, the text in and out included, and what a program takes for a mesh of eight vertices is taken off:
+//! its start, and where it is emulated the translation of its code. What runs inside this process, without text and always natively,
+//! has tables of its own: no time of the one kind stands beside one of the other.
 
 use std::hint::black_box;
 
 use crate::clock::{children, own};
 use crate::generate::of_family;
-use crate::oracle::{answers_of, Program};
+use crate::oracle::Program;
 use crate::plain;
 use crate::reading;
 use crate::rng::Rng;
 use crate::runner::Runner;
-use crate::slow::{build, used, verdict, Array, Mesh};
+use crate::slow::{answers, build, edge_of, used, verdict, Array, Mesh};
 use crate::text::{write_array, write_mesh};
 
 const SIZES: [usize; 3] = [64, 256, 1_024];
-const RUNS: usize = 60;
+/// Of the slow engine, which takes long enough.
+const SLOW_RUNS: usize = 3;
 /// Stacked, then flipped: the family least like a pattern.
 const FAMILY: usize = 1;
 /// What is taken off a program's time is its time for a mesh of so many vertices.
 const FEW: usize = 8;
+/// Programs are compiled for this machine.
+const NATIVE: &str = "x86_64";
 
-/// Milliseconds of the processor, the least of many runs; for programs, less their time for few vertices.
-struct Row {
-    n: usize,
-    engine_build: f64,
-    c_build: Option<f64>,
-    rust_build: f64,
-    slow_build: f64,
-    engine_questions: f64,
-    rust_questions: f64,
-    slow_questions: f64,
-    engine_rebuild: f64,
-    reads: usize,
-    most_reads: usize,
+/// What is measured, and how often.
+pub struct Bench<'a> {
+    pub engine: &'a Runner,
+    /// Runs the baseline in C.
+    pub plain: Option<&'a Runner>,
+    pub seed: u64,
+    pub runs: usize,
 }
 
-/// Measures and prints. `plain` runs the baseline in C.
-pub fn bench(engine: &Runner, plain: Option<&Runner>, seed: u64) -> Result<(), String> {
-    let rows = SIZES.into_iter().map(|n| row(engine, plain, seed, n)).collect::<Result<Vec<Row>, String>>()?;
-    println!("Machine: {}, {}.", std::env::consts::ARCH, std::env::consts::OS);
-    if std::env::consts::ARCH != "x86_64" {
-        println!("The programs are emulated here, and emulated times are no times: compare a program only with a program.");
-    }
-    print_builds(&rows);
-    print_questions(&rows);
-    print_growth(&rows);
+/// Milliseconds of the processor, the least of many runs, less the time for few vertices.
+struct Programs {
+    meshlines: f64,
+    c: Option<f64>,
+    answers: f64,
+    rebuildlines: f64,
+}
+
+/// Milliseconds of the processor, the least of many runs.
+struct Inside {
+    plain_build: f64,
+    slow_build: f64,
+    plain_questions: f64,
+    slow_questions: f64,
+}
+
+/// Target's reads over all edges: exact counts.
+struct Reads {
+    all: usize,
+    most: usize,
+}
+
+struct Row {
+    n: usize,
+    programs: Programs,
+    inside: Inside,
+    reads: Reads,
+}
+
+/// Measures and prints.
+pub fn bench(bench: &Bench) -> Result<(), String> {
+    let rows = SIZES.into_iter().map(|n| row(bench, n)).collect::<Result<Vec<Row>, String>>()?;
+    println!("Machine: {}, {}{}.", std::env::consts::ARCH, std::env::consts::OS, processors());
+    println!(
+        "Processor time in ms, the least of {} runs of a program and of plain Rust, of {SLOW_RUNS} of the slow engine.",
+        bench.runs
+    );
+    print_programs(&rows);
+    print_inside(&rows);
+    print_reads(&rows);
     print_bytes();
     Ok(())
+}
+
+/// Their model and how many there are, where the system tells.
+fn processors() -> String {
+    let told = std::fs::read_to_string("/proc/cpuinfo").unwrap_or_default();
+    let model =
+        told.lines().find_map(|line| line.strip_prefix("model name")).map(|rest| rest.trim_start_matches([' ', '\t', ':']));
+    let count = std::thread::available_parallelism().map_or(String::new(), |count| format!(", {count} processors"));
+    model.map_or(String::new(), |model| format!(", {model}")) + &count
 }
 
 /// A mesh with its array and both texts.
@@ -67,25 +103,35 @@ fn sample(seed: u64, n: usize) -> Sample {
     Sample { mesh, array, text, array_text }
 }
 
-fn row(engine: &Runner, plain: Option<&Runner>, seed: u64, n: usize) -> Result<Row, String> {
-    let few = sample(seed, FEW);
-    let Sample { mesh, array, text, array_text } = sample(seed, n);
-    let runners: Vec<&Runner> = std::iter::once(engine).chain(plain).collect();
-    let builds = above_few(&runners, Program::Meshlines, &text, &few.text)?;
-    let reads: Vec<usize> = (0..3 * n).filter_map(|j| reading::target(&array, j).ok()).map(|(_, reads)| reads).collect();
-    Ok(Row {
-        n,
-        engine_build: builds[0],
-        c_build: builds.get(1).copied(),
-        rust_build: least(RUNS, || plain::build(black_box(&mesh))),
-        slow_build: least(3, || slow_build(black_box(&mesh))),
-        engine_questions: above_few(&[engine], Program::Answers, &array_text, &few.array_text)?[0],
-        rust_questions: least(RUNS, || ask_all(black_box(&array))),
-        slow_questions: least(3, || answers_of(black_box(&mesh))),
-        engine_rebuild: above_few(&[engine], Program::Rebuildlines, &array_text, &few.array_text)?[0],
-        reads: reads.iter().sum(),
-        most_reads: *reads.iter().max().expect("an array has edges"),
+fn row(bench: &Bench, n: usize) -> Result<Row, String> {
+    let (whole, few) = (sample(bench.seed, n), sample(bench.seed, FEW));
+    Ok(Row { n, programs: programs(bench, &whole, &few)?, inside: inside(bench, &whole), reads: reads(&whole.array) })
+}
+
+fn programs(bench: &Bench, whole: &Sample, few: &Sample) -> Result<Programs, String> {
+    let runners: Vec<&Runner> = std::iter::once(bench.engine).chain(bench.plain).collect();
+    let builds = above_few(bench.runs, &runners, Program::Meshlines, &whole.text, &few.text)?;
+    let alone = |program| above_few(bench.runs, &[bench.engine], program, &whole.array_text, &few.array_text);
+    Ok(Programs {
+        meshlines: builds[0],
+        c: builds.get(1).copied(),
+        answers: alone(Program::Answers)?[0],
+        rebuildlines: alone(Program::Rebuildlines)?[0],
     })
+}
+
+fn inside(bench: &Bench, sample: &Sample) -> Inside {
+    Inside {
+        plain_build: least(bench.runs, || plain::build(black_box(&sample.mesh))),
+        slow_build: least(SLOW_RUNS, || slow_build(black_box(&sample.mesh))),
+        plain_questions: least(bench.runs, || ask_all(black_box(&sample.array))),
+        slow_questions: least(SLOW_RUNS, || slow_questions(black_box(&sample.mesh))),
+    }
+}
+
+fn reads(array: &Array) -> Reads {
+    let each: Vec<usize> = (0..3 * array.n).filter_map(|j| reading::target(array, j).ok()).map(|(_, reads)| reads).collect();
+    Reads { all: each.iter().sum(), most: *each.iter().max().expect("an array has edges") }
 }
 
 fn slow_build(mesh: &Mesh) -> Array {
@@ -93,16 +139,21 @@ fn slow_build(mesh: &Mesh) -> Array {
     build(mesh)
 }
 
-/// The six questions about every edge, by document 01's readings in plain Rust.
+/// The same questions as `ask_all`, by searching triangles.
+fn slow_questions(mesh: &Mesh) -> usize {
+    let edges: usize = (0..3 * mesh.n).filter(|&j| used(j)).map(|j| black_box(answers(mesh, j)).reads).sum();
+    edges + (0..mesh.n).map(|u| edge_of(mesh, u as u16)).sum::<usize>()
+}
+
+/// The six questions about every edge and Edge of every vertex, by the readings in plain Rust.
 fn ask_all(array: &Array) -> usize {
-    (0..3 * array.n)
-        .filter(|&j| used(j))
-        .map(|j| {
-            let ask = [reading::source, reading::left_front, reading::right_front, reading::left_back, reading::right_back];
-            let sum: usize = ask.iter().map(|ask| ask(array, j).unwrap_or(0)).sum();
-            sum + reading::target(array, j).map_or(0, |(vertex, reads)| vertex + reads)
-        })
-        .sum()
+    let about_edge = |j: usize| {
+        let ask = [reading::source, reading::left_front, reading::right_front, reading::left_back, reading::right_back];
+        let sum: usize = ask.iter().map(|ask| ask(array, j).unwrap_or(0)).sum();
+        sum + reading::target(array, j).map_or(0, |(vertex, reads)| vertex + reads)
+    };
+    let edges: usize = (0..3 * array.n).filter(|&j| used(j)).map(about_edge).sum();
+    edges + (0..array.n).map(|u| reading::edge(array, u).unwrap_or(0)).sum::<usize>()
 }
 
 /// The quickest of so many runs.
@@ -123,10 +174,10 @@ fn program_time(runner: &Runner, program: Program, input: &[u8]) -> Result<f64, 
 
 /// Each runner's time for the input less its time for the one of few vertices. The runners take turns, so that all meet the same
 /// machine.
-fn above_few(runners: &[&Runner], program: Program, input: &[u8], few: &[u8]) -> Result<Vec<f64>, String> {
+fn above_few(runs: usize, runners: &[&Runner], program: Program, input: &[u8], few: &[u8]) -> Result<Vec<f64>, String> {
     let mut whole = vec![f64::INFINITY; runners.len()];
     let mut off = whole.clone();
-    for _ in 0..RUNS {
+    for _ in 0..runs {
         for (k, runner) in runners.iter().enumerate() {
             whole[k] = whole[k].min(program_time(runner, program, input)?);
             off[k] = off[k].min(program_time(runner, program, few)?);
@@ -135,48 +186,72 @@ fn above_few(runners: &[&Runner], program: Program, input: &[u8], few: &[u8]) ->
     Ok(whole.iter().zip(off).map(|(whole, off)| whole - off).collect())
 }
 
-fn print_builds(rows: &[Row]) {
-    println!("\nBuild, in ms: check and array. Engine and C with the text read and written, less {FEW} vertices.");
-    println!("     n     engine          C   engine/C | plain Rust       slow  slow/plain  engine/plain");
-    for row in rows {
-        let c = row.c_build.unwrap_or(f64::NAN);
-        // An emulated program has no ratio with one that is not.
-        let plain = if std::env::consts::ARCH == "x86_64" { row.engine_build / row.rust_build } else { f64::NAN };
-        print!("{:6} {:10.2} {} {} |", row.n, row.engine_build, known(c), known(row.engine_build / c));
-        println!(" {:10.2} {:10.2} {:11.1} {}", row.rust_build, row.slow_build, row.slow_build / row.rust_build, known(plain));
-    }
+/// A table as Markdown has it.
+fn print_table(title: &str, head: &[&str], rows: Vec<Vec<String>>) {
+    println!("\n{title}\n");
+    println!("| {} |", head.join(" | "));
+    println!("|{}", "---|".repeat(head.len()));
+    rows.iter().for_each(|cells| println!("| {} |", cells.join(" | ")));
 }
 
-/// A number, or a stroke where there is none.
-fn known(number: f64) -> String {
-    if number.is_nan() {
-        format!("{:>10}", "-")
-    } else {
-        format!("{number:10.2}")
-    }
+/// What a row's first cell says, and its other cells.
+fn cells(first: String, rest: &[String]) -> Vec<String> {
+    std::iter::once(first).chain(rest.iter().cloned()).collect()
 }
 
-fn print_questions(rows: &[Row]) {
-    println!(
-        "\nAll six questions about every edge, in ms. Engine with the text read and written, less {FEW} vertices; and the rebuild."
-    );
-    println!("     n     engine    rebuild | plain Rust       slow  slow/plain | reads of Target: all, a vertex, most");
-    for row in rows {
-        print!("{:6} {:10.2} {:10.2} |", row.n, row.engine_questions, row.engine_rebuild);
-        print!(" {:10.3} {:10.2} {:11.0} |", row.rust_questions, row.slow_questions, row.slow_questions / row.rust_questions);
-        println!(" {:6} {:7.2} {:5}", row.reads, row.reads as f64 / row.n as f64, row.most_reads);
-    }
+fn print_programs(rows: &[Row]) {
+    let how = if std::env::consts::ARCH == NATIVE { "run natively" } else { "run under the emulator" };
+    let title = format!("Programs ({how}), the text read and written, less {FEW} vertices");
+    let head = ["n", "meshlines", "the same in C", "meshlines / C", "answers", "rebuildlines", "rebuildlines / meshlines"];
+    let row = |Row { n, programs: p, .. }: &Row| {
+        let c = p.c.map_or(["-".into(), "-".into()], |c| [format!("{c:.2}"), format!("{:.2}", p.meshlines / c)]);
+        let rest =
+            [format!("{:.2}", p.answers), format!("{:.2}", p.rebuildlines), format!("{:.2}", p.rebuildlines / p.meshlines)];
+        cells(n.to_string(), &[vec![format!("{:.2}", p.meshlines)], c.to_vec(), rest.to_vec()].concat())
+    };
+    print_table(&title, &head, rows.iter().map(row).collect());
+    let times: [fn(&Row) -> f64; 3] =
+        [|row| row.programs.meshlines, |row| row.programs.answers, |row| row.programs.rebuildlines];
+    print_growth(&format!("Growth of the programs ({how})"), &["meshlines", "answers", "rebuildlines"], rows, &times);
 }
 
-fn print_growth(rows: &[Row]) {
-    println!("\nGrowth where n grows fourfold: times 4 is linear, times 16 quadratic.");
-    for pair in rows.windows(2) {
-        let (a, b) = (&pair[0], &pair[1]);
-        print!("{:5} to {:5}:", a.n, b.n);
-        print!(" build engine {:.1}, slow {:.1};", b.engine_build / a.engine_build, b.slow_build / a.slow_build);
-        print!(" questions engine {:.1},", b.engine_questions / a.engine_questions);
-        println!(" plain {:.1}, slow {:.1}", b.rust_questions / a.rust_questions, b.slow_questions / a.slow_questions);
-    }
+fn print_inside(rows: &[Row]) {
+    let head =
+        ["n", "build, plain Rust", "build, slow", "slow / plain", "questions, plain Rust", "questions, slow", "slow / plain"];
+    let row = |Row { n, inside: i, .. }: &Row| {
+        let build =
+            [format!("{:.2}", i.plain_build), format!("{:.2}", i.slow_build), format!("{:.1}", i.slow_build / i.plain_build)];
+        let ratio = format!("{:.0}", i.slow_questions / i.plain_questions);
+        let questions = [format!("{:.3}", i.plain_questions), format!("{:.2}", i.slow_questions), ratio];
+        cells(n.to_string(), &[build, questions].concat())
+    };
+    print_table("Inside the harness (native), no text", &head, rows.iter().map(row).collect());
+    let names = ["build, plain Rust", "build, slow", "questions, plain Rust", "questions, slow"];
+    let times: [fn(&Row) -> f64; 4] = [
+        |row| row.inside.plain_build,
+        |row| row.inside.slow_build,
+        |row| row.inside.plain_questions,
+        |row| row.inside.slow_questions,
+    ];
+    print_growth("Growth inside the harness (native)", &names, rows, &times);
+}
+
+/// How many times as long it takes where n grows fourfold.
+fn print_growth(title: &str, names: &[&str], rows: &[Row], times: &[fn(&Row) -> f64]) {
+    let head: Vec<&str> = std::iter::once("n").chain(names.iter().copied()).collect();
+    let row = |pair: &[Row]| {
+        let grown: Vec<String> = times.iter().map(|time| format!("{:.1}", time(&pair[1]) / time(&pair[0]))).collect();
+        cells(format!("{} to {}", pair[0].n, pair[1].n), &grown)
+    };
+    print_table(&format!("{title}: 4 is linear, 16 is quadratic"), &head, rows.windows(2).map(row).collect());
+}
+
+fn print_reads(rows: &[Row]) {
+    let row = |Row { n, reads, .. }: &Row| {
+        let mean = format!("{:.2}", reads.all as f64 / *n as f64);
+        cells(n.to_string(), &[reads.all.to_string(), mean, reads.most.to_string()])
+    };
+    print_table("Target's reads, all edges asked (counts)", &["n", "all", "a vertex", "most"], rows.iter().map(row).collect());
 }
 
 /// Six references of two bytes and three service bytes, against 19 references: three for each of six half-edges, and one.

@@ -32,7 +32,7 @@ pub enum Kind {
 impl Kind {
     pub fn name(self) -> &'static str {
         match self {
-            Kind::Piece => "pieces of document 01",
+            Kind::Piece => "pieces of the specification",
             Kind::Large => "meshes of 1,024 vertices",
             Kind::Accepted => "accepted meshes",
             Kind::Damaged => "damaged meshes",

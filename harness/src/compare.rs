@@ -135,7 +135,7 @@ fn show(plan: &Plan, runner: &Runner, kind: Kind, index: usize, case: &Case) {
         tries += 1;
         tries <= TRIES && Instant::now() < until && runner.run(program, input) != Ok(expected(program, input))
     };
-    // A piece's answer is document 01's own; should the slow engine err with the program, there is nothing to cut down.
+    // A piece's answer is the specification's own; should the slow engine err with the program, there is nothing to cut down.
     let differs_here = differs(&case.input);
     let input = if differs_here { shrink(program, &case.input, &mut differs) } else { case.input.clone() };
     let wanted = if differs_here { expected(program, &input) } else { case.expected.clone() };

@@ -351,7 +351,7 @@ fn some_ring(rng: &mut Rng, mesh: &Mesh) -> Option<Vec<usize>> {
     }
 }
 
-/// A torus beside the mesh, its wood without an end: every local rule holds.
+/// A torus beside the mesh, its paths without an end: nothing but the path rule notices it.
 fn torus_apart(rng: &mut Rng, mesh: &mut Mesh) {
     let k = rng.between(7, 14);
     if mesh.n > 80 || mesh.wood.len() != 3 * mesh.n {

@@ -5,6 +5,7 @@ mod cases;
 mod clock;
 mod compare;
 mod damage;
+mod examples;
 mod generate;
 mod oracle;
 mod pieces;
@@ -25,8 +26,10 @@ mod torn;
 mod wood;
 
 use std::io::{Read, Write};
+use std::path::Path;
 use std::process::ExitCode;
 
+use bench::Bench;
 use cases::Kind;
 use compare::{compare, Plan};
 use oracle::{expected, Program, PROGRAMS};
@@ -41,14 +44,18 @@ const TORN: usize = 2_000;
 const ARRAY_TEXTS: usize = 200;
 const SEED: u64 = 1;
 const WORKERS: usize = 2;
+/// Of each program, where times are measured.
+const RUNS: usize = 60;
 
 const USAGE: &str = "\
 harness check [--run COMMAND] [--seed NUMBER] [--only PROGRAM]
-    what the gate compares; COMMAND followed by a program's name runs that program
+    what the gate compares; COMMAND runs a program: its name stands for {} in it, or follows it
+harness examples [--run COMMAND]
+    every text of examples/ with meshlines, held to the table there
 harness long --seed NUMBER --count NUMBER [--run COMMAND] [--only PROGRAM]
     so many items of all kinds, with a progress line
-harness bench [--run COMMAND] [--plain COMMAND] [--seed NUMBER]
-    times and ratios; the second COMMAND runs the baseline in C
+harness bench [--run COMMAND] [--plain COMMAND] [--seed NUMBER] [--runs NUMBER]
+    times and ratios, the least of so many runs; the second COMMAND runs the baseline in C
 harness act PROGRAM
     the slow engine in the program's place: standard input to standard output";
 
@@ -68,6 +75,7 @@ fn run(words: &[String]) -> Result<bool, String> {
     let options = Options::read(words.get(1..).unwrap_or_default())?;
     match words.first().map(String::as_str) {
         Some("check") => Ok(check(&options)),
+        Some("examples") => examples(&options),
         Some("long") => Ok(long(&options)),
         Some("bench") => bench(&options),
         Some("act") => act(options.only.ok_or("which program?")?),
@@ -79,13 +87,14 @@ struct Options {
     run: String,
     seed: u64,
     count: usize,
+    runs: usize,
     only: Option<Program>,
     plain: Option<String>,
 }
 
 impl Options {
     fn read(words: &[String]) -> Result<Options, String> {
-        let mut options = Options { run: "tools/run".into(), seed: SEED, count: 10_000, only: None, plain: None };
+        let mut options = Options { run: "tools/run".into(), seed: SEED, count: 10_000, runs: RUNS, only: None, plain: None };
         let mut words = words.iter();
         while let Some(word) = words.next() {
             if let Some(program) = program(word) {
@@ -97,6 +106,9 @@ impl Options {
                 "--run" => options.run = value.clone(),
                 "--seed" => options.seed = value.parse().map_err(|_| "the seed is a number")?,
                 "--count" => options.count = value.parse().map_err(|_| "the count is a number")?,
+                "--runs" => {
+                    options.runs = value.parse().ok().filter(|&runs| runs > 0).ok_or("the runs are a number, 1 or more")?
+                }
                 "--plain" => options.plain = Some(value.clone()),
                 "--only" => options.only = Some(program(value).ok_or("no such program")?),
                 _ => return Err(format!("no such word: {word}")),
@@ -128,6 +140,12 @@ fn check(options: &Options) -> bool {
     start(options, items, true)
 }
 
+fn examples(options: &Options) -> Result<bool, String> {
+    let runner = Runner::new(&options.run);
+    runner.ready(Program::Meshlines)?;
+    examples::examples(Path::new("examples"), |text| runner.run(Program::Meshlines, text))
+}
+
 /// Items in the shares that the gate has, the large ones few.
 fn long(options: &Options) -> bool {
     let kinds = [Kind::Accepted, Kind::Damaged, Kind::Torn, Kind::Torn, Kind::HouseText, Kind::ArrayText, Kind::Accepted];
@@ -139,7 +157,7 @@ fn start(options: &Options, items: Vec<(Kind, usize)>, gate: bool) -> bool {
     let runner = Runner::new(&options.run);
     let programs = options.programs();
     for &program in &programs {
-        if let Err(failure) = runner.run(program, b"00002\n") {
+        if let Err(failure) = runner.ready(program) {
             println!("harness: {} cannot be run: {failure}", program.name());
             return false;
         }
@@ -149,8 +167,9 @@ fn start(options: &Options, items: Vec<(Kind, usize)>, gate: bool) -> bool {
 }
 
 fn bench(options: &Options) -> Result<bool, String> {
-    let plain = options.plain.as_deref().map(Runner::new);
-    bench::bench(&Runner::new(&options.run), plain.as_ref(), options.seed)?;
+    let (engine, plain) = (Runner::new(&options.run), options.plain.as_deref().map(Runner::new));
+    PROGRAMS.into_iter().try_for_each(|program| engine.ready(program))?;
+    bench::bench(&Bench { engine: &engine, plain: plain.as_ref(), seed: options.seed, runs: options.runs })?;
     Ok(true)
 }
 

@@ -1,7 +1,8 @@
 //! The programs as the slow engine answers for them: a text in, a text out.
 
+use crate::reading::{UNKNOWN_EDGE, UNKNOWN_VERTEX};
 use crate::rebuild::rebuild;
-use crate::slow::{answers, build, used, verdict, Mesh};
+use crate::slow::{answers, build, edge_of, used, verdict, Mesh};
 use crate::text;
 
 #[derive(Clone, Copy, PartialEq, Eq, Debug)]
@@ -26,7 +27,7 @@ impl Program {
     pub fn numbers(self) -> &'static [u8] {
         match self {
             Program::Meshlines => &[0, 1, 2, 3, 4, 5, 6, 7, 8, 9, 10, 11, 12, 13, 19, 20],
-            Program::Answers => &[0, 1, 14, 16, 20],
+            Program::Answers => &[0, 1, 14, 15, 16, 20],
             Program::Rebuildlines => &[0, 1, 18, 20],
         }
     }
@@ -58,20 +59,15 @@ fn rebuildlines(input: &[u8]) -> Result<Vec<u8>, u8> {
 
 /// What `answers` has to write for the array of an accepted mesh, from its triangles and its wood and no array.
 pub fn answers_of(mesh: &Mesh) -> Vec<u8> {
-    let mut text = String::new();
-    for j in 0..=3 * mesh.n {
-        text += &format!("06{j:03X}");
+    let about_edge = |j: usize| {
         if j == 3 * mesh.n || !used(j) {
-            text += &"F00E".repeat(6);
-        } else {
-            let a = answers(mesh, j);
-            text += &text::plain(Ok(a.source as usize));
-            text += &text::with_reads(Ok((a.target as usize, a.reads)));
-            for edge in [a.left_front, a.right_front, a.left_back, a.right_back] {
-                text += &text::plain(Ok(edge));
-            }
+            return text::plain(Err(UNKNOWN_EDGE)).repeat(6);
         }
-        text.push('\n');
-    }
-    text.into_bytes()
+        let a = answers(mesh, j);
+        let ends = text::plain(Ok(a.source as usize)) + &text::with_reads(Ok((a.target as usize, a.reads)));
+        let beside = [a.left_front, a.right_front, a.left_back, a.right_back];
+        ends + &beside.map(|edge| text::plain(Ok(edge))).concat()
+    };
+    let about_vertex = |u: usize| text::plain(if u < mesh.n { Ok(edge_of(mesh, u as u16)) } else { Err(UNKNOWN_VERTEX) });
+    text::answer_lines(mesh.n, about_edge, about_vertex)
 }

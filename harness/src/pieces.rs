@@ -1,10 +1,10 @@
-//! Document 01's pieces to try, with what it says of each.
+//! The specification's pieces (docs/SPECIFICATION.md, section 13), with the number that each has to meet.
 
 use crate::slow::{Mesh, UNUSED};
 
 const ANCHORS: [u16; 9] = [UNUSED, UNUSED, UNUSED, 0, UNUSED, UNUSED, 0, 1, UNUSED];
 
-/// The whole input and the whole output of `meshlines` for the four-vertex piece.
+/// The four-vertex piece as house text, and all that `meshlines` writes for it (docs/SPECIFICATION.md, section 12).
 pub const EXAMPLE: (&str, &str) = (
     "00004\n01000002001\n01000001003\n01001002003\n01002000003\n02000001002\n",
     "00004\n030030060090\n030060090032\n0300700300A1\n030090030063\n0300A0070033\n0300B0060073\n",
@@ -37,7 +37,8 @@ pub fn six() -> Mesh {
     mesh(6, &SIX, &[[0, 1, 2], [0, 1, 3], [4, 1, 3]])
 }
 
-/// "with i from 0 to 6 and sums modulo 7 then raised by 3, (i,i+1,i+3) and (i,i+3,i+2); targets of i are i+1, i+2, i+4"
+/// The anchors' triangle and its back; beside them, joined to neither, a torus of seven vertices, each a neighbour of all the others,
+/// whose paths go round for ever.
 pub fn ring_apart() -> Mesh {
     let at = |i: u16| i % 7 + 3;
     let mut triangles = vec![[0, 1, 2], [0, 2, 1]];
@@ -53,7 +54,7 @@ fn ring_with_a_triangle_elsewhere() -> Mesh {
     piece
 }
 
-/// "Two octahedra sharing only their poles 0 and 3, n=10, equators 2,1,4,5 and 6,7,8,9"
+/// Two octahedra that hang together at two opposite corners, 0 and 3, and nowhere else.
 fn two_octahedra() -> Mesh {
     let mut triangles = Vec::new();
     for ring in [[2, 1, 4, 5], [6, 7, 8, 9]] {

@@ -1,7 +1,7 @@
 //! The benchmark's baseline: the engine's own algorithm in plain Rust, with nothing proved. It is not the second implementation
 //! (that is slow.rs); harness/plain/plain.c is the same in C.
 
-use crate::slow::{Array, Mesh, UNUSED};
+use crate::slow::{Array, Mesh, FEWEST, MOST, UNUSED};
 
 /// Positions of sides are 3t+k; the reverse of each, and the position of each edge's side.
 struct Tables {
@@ -12,7 +12,7 @@ struct Tables {
 /// Checks and builds; an error is the number met.
 pub fn build(mesh: &Mesh) -> Result<Array, u8> {
     let (n, ws) = (mesh.n, &mesh.wood[..]);
-    if !(3..=1_024).contains(&n) {
+    if !(FEWEST..=MOST).contains(&n) {
         return Err(1);
     }
     let ts = mesh.triangles.concat();

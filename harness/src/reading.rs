@@ -1,18 +1,21 @@
-//! Document 01's "Readings" and "Torn", word for word: the questions put to an array, built or not. An error is the refusal's number.
+//! The questions put to an array, built or torn, after docs/SPECIFICATION.md, sections 6 and 7: no triangle and no wood is at hand.
+//! An error is the refusal's number.
 
 use crate::slow::{used, Array, FEWEST, MOST};
 
 pub const UNKNOWN_EDGE: u8 = 14;
+pub const UNKNOWN_VERTEX: u8 = 15;
 pub const TORN: u8 = 16;
 
-/// "Questions meet 1, 2, then 14".
-fn asked(array: &Array, j: usize) -> Result<(), u8> {
+fn in_range(array: &Array) -> Result<(), u8> {
     if array.n < FEWEST || array.n > MOST {
-        return Err(1);
+        Err(1)
+    } else {
+        Ok(())
     }
-    if array.references.len() != 6 * array.n || array.service.len() != 3 * array.n {
-        return Err(2);
-    }
+}
+
+fn known(array: &Array, j: usize) -> Result<(), u8> {
     if is_edge(array, j) {
         Ok(())
     } else {
@@ -20,11 +23,20 @@ fn asked(array: &Array, j: usize) -> Result<(), u8> {
     }
 }
 
+/// What is tested before any table is read: 1, 2, 14.
+fn asked(array: &Array, j: usize) -> Result<(), u8> {
+    in_range(array)?;
+    if array.references.len() != 6 * array.n || array.service.len() != 3 * array.n {
+        return Err(2);
+    }
+    known(array, j)
+}
+
 fn is_edge(array: &Array, e: usize) -> bool {
     used(e) && e < 3 * array.n
 }
 
-/// "a reference read or an answer is an unused index or 3n or more": torn.
+/// Whatever is read or answered has to be an edge, or the array is torn.
 fn sound(array: &Array, e: usize) -> Result<usize, u8> {
     if is_edge(array, e) {
         Ok(e)
@@ -37,7 +49,7 @@ fn read(array: &Array, place: usize) -> Result<usize, u8> {
     sound(array, array.references[place] as usize)
 }
 
-/// "the service byte consulted is above 3": torn.
+/// A byte has its two bits and no other, or the array is torn.
 fn consult(array: &Array, j: usize) -> Result<u8, u8> {
     if array.service[j] > 3 {
         Err(TORN)
@@ -46,10 +58,21 @@ fn consult(array: &Array, j: usize) -> Result<u8, u8> {
     }
 }
 
-/// "Source is j divided by 3, floored."
+/// Every vertex has three indices. No table is read, so 2 is not met.
 pub fn source(array: &Array, j: usize) -> Result<usize, u8> {
-    asked(array, j)?;
+    in_range(array)?;
+    known(array, j)?;
     Ok(j / 3)
+}
+
+/// Edge of vertex u: the first of its three indices; 0 has none of its own and gives the first that ends there. No table is read.
+pub fn edge(array: &Array, u: usize) -> Result<usize, u8> {
+    in_range(array)?;
+    match u {
+        _ if u >= array.n => Err(UNKNOWN_VERTEX),
+        0 => Ok(3),
+        _ => Ok(3 * u),
+    }
 }
 
 pub fn left_front(array: &Array, j: usize) -> Result<usize, u8> {

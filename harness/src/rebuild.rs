@@ -85,8 +85,8 @@ pub fn turned([a, b, c]: [u16; 3]) -> [u16; 3] {
     }
 }
 
-/// "by ascending edge index, left before right. Each is written at the smallest index among its three edges, as (u,v,w) on the
-/// left or (v,u,z) on the right."
+/// The order that a rebuild writes in (docs/SPECIFICATION.md, section 9): a triangle's place is its lowest edge and the hand on which
+/// it lies there, left first; it begins with the side along that edge.
 fn in_order(mesh: &Mesh) -> Mesh {
     let mut places: Vec<(usize, bool, [u16; 3])> = mesh.triangles.iter().map(|&t| placed(mesh, t)).collect();
     places.sort_unstable();

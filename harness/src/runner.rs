@@ -11,32 +11,49 @@ use crate::oracle::Program;
 /// Longer than any program needs, under emulation too.
 const PATIENCE: Duration = Duration::from_secs(120);
 
-/// The words before a program's name in the command that runs it.
+/// Stands for the program's name in a command.
+const NAME: &str = "{}";
+
+/// The words of the command that runs a program.
 pub struct Runner {
     words: Vec<String>,
 }
 
 impl Runner {
-    /// `command`, followed by a program's name, runs that program.
+    /// `command` with a program's name in the place of `{}`, or else at its end, runs that program.
     pub fn new(command: &str) -> Runner {
-        Runner { words: command.split_whitespace().map(String::from).collect() }
+        let mut words: Vec<String> = command.split_whitespace().map(String::from).collect();
+        if !command.contains(NAME) {
+            words.push(NAME.into());
+        }
+        Runner { words }
     }
 
-    fn start(&self, program: Program) -> Result<Child, String> {
-        let first = self.words.first().ok_or("no command to run programs with")?;
-        Command::new(first)
-            .args(&self.words[1..])
-            .arg(program.name())
+    fn start(&self, program: Program, stderr: Stdio) -> Result<Child, String> {
+        let words: Vec<String> = self.words.iter().map(|word| word.replace(NAME, program.name())).collect();
+        Command::new(&words[0])
+            .args(&words[1..])
             .stdin(Stdio::piped())
             .stdout(Stdio::piped())
-            .stderr(Stdio::piped())
+            .stderr(stderr)
             .spawn()
-            .map_err(|error| format!("{first} cannot be started: {error}"))
+            .map_err(|error| format!("{} cannot be started: {error}", words[0]))
+    }
+
+    /// Runs the program once on no text. The command may have to prove and build it first: it has all the time that it needs, and
+    /// what it says is passed on.
+    pub fn ready(&self, program: Program) -> Result<(), String> {
+        let ended = self.start(program, Stdio::inherit())?.wait_with_output().map_err(|error| error.to_string())?;
+        if ended.status.success() {
+            Ok(())
+        } else {
+            Err(format!("{} ended with {}", program.name(), ended.status))
+        }
     }
 
     /// What the program writes. It must end with status 0 and say nothing on its standard error.
     pub fn run(&self, program: Program, input: &[u8]) -> Result<Vec<u8>, String> {
-        let mut child = self.start(program)?;
+        let mut child = self.start(program, Stdio::piped())?;
         let mut stdin = child.stdin.take().expect("piped");
         let mut stdout = child.stdout.take().expect("piped");
         let mut stderr = child.stderr.take().expect("piped");

@@ -1,5 +1,5 @@
-//! The slow engine: document 01 sentence by sentence. Every step searches the whole triangle list or the whole wood; nothing
-//! is kept between two questions, so that nothing is shared with an engine that keeps tables.
+//! The slow engine, after docs/SPECIFICATION.md, sections 2 to 5. Every step searches the whole triangle list or the whole wood;
+//! nothing is kept between two questions, so that nothing is shared with an engine that keeps tables.
 
 pub const UNUSED: u16 = 65_535;
 pub const FEWEST: usize = 3;
@@ -21,7 +21,7 @@ pub struct Array {
     pub service: Vec<u8>,
 }
 
-/// "For anchors only edges 3 (to 0), 6 (to 0) and 7 (to 1) exist."
+/// Between the anchors run three edges, 1 to 0, 2 to 0 and 2 to 1; the other indices below 9 stand for none.
 pub fn used(edge: usize) -> bool {
     edge == 3 || edge == 6 || edge == 7 || edge >= 9
 }
@@ -30,7 +30,7 @@ pub fn source(edge: usize) -> u16 {
     (edge / 3) as u16
 }
 
-/// "Triangle (a,b,c) has directed sides a to b, b to c, c to a."
+/// The sides of all triangles in turn, each from a corner to the one after it.
 fn sides(mesh: &Mesh) -> Vec<(u16, u16)> {
     mesh.triangles.iter().flat_map(|&[a, b, c]| [(a, b), (b, c), (c, a)]).collect()
 }
@@ -63,7 +63,8 @@ fn is_neighbour(mesh: &Mesh, a: u16, b: u16) -> bool {
     third(mesh, a, b).is_some() || third(mesh, b, a).is_some()
 }
 
-/// Once round v from its neighbour `start`: "the neighbour after x is the y of the triangle (v,x,y)". None where it does not close.
+/// The neighbours of v once round, from `start` on: each triangle at v leads from one to the next. None where the way does not
+/// come back.
 fn round(mesh: &Mesh, v: u16, start: u16) -> Option<Vec<u16>> {
     let mut met = vec![start];
     let mut x = start;
@@ -77,7 +78,8 @@ fn round(mesh: &Mesh, v: u16, start: u16) -> Option<Vec<u16>> {
     None
 }
 
-/// The number that building meets first, 0 where the mesh is accepted: "each tested over the whole input before the next".
+/// The number of the first test that applies, 0 where the mesh is accepted. A test has seen all of the input before the next one
+/// begins (docs/SPECIFICATION.md, section 4).
 pub fn verdict(mesh: &Mesh) -> u8 {
     let tests: [fn(&Mesh) -> bool; 13] = [
         size_out_of_range,
@@ -97,44 +99,44 @@ pub fn verdict(mesh: &Mesh) -> u8 {
     tests.iter().position(|applies| applies(mesh)).map_or(0, |k| k as u8 + 1)
 }
 
-/// 1: "n below 3 or above 1,024".
+/// 1: too few vertices or too many.
 fn size_out_of_range(mesh: &Mesh) -> bool {
     mesh.n < FEWEST || mesh.n > MOST
 }
 
-/// 2: "a lent table or the frame counts don't have exactly the length that n asks".
+/// 2: a table that is shorter or longer than n vertices need.
 fn wrong_length(mesh: &Mesh) -> bool {
     mesh.triangles.len() != 2 * mesh.n - 4 || mesh.wood.len() != 3 * mesh.n
 }
 
-/// 3: "a corner is n or more".
+/// 3: a corner that is no vertex.
 fn high_corner(mesh: &Mesh) -> bool {
     mesh.triangles.iter().flatten().any(|&corner| corner as usize >= mesh.n)
 }
 
-/// 4: "a triangle has two equal corners".
+/// 4: a triangle with a corner twice.
 fn equal_corners(mesh: &Mesh) -> bool {
     mesh.triangles.iter().any(|&[a, b, c]| a == b || b == c || c == a)
 }
 
-/// 5: "a directed side occurs twice".
+/// 5: two sides with the same start and end.
 fn side_twice(mesh: &Mesh) -> bool {
     let all = sides(mesh);
     (0..all.len()).any(|k| all[..k].contains(&all[k]))
 }
 
-/// 6: "a directed side's reverse doesn't occur".
+/// 6: a side that no triangle has the other way round.
 fn no_reverse(mesh: &Mesh) -> bool {
     let all = sides(mesh);
     all.iter().any(|&(a, b)| !all.contains(&(b, a)))
 }
 
-/// 7: "the outer triangle isn't in the table". It "reads (0,2,1) up to turning round".
+/// 7: the outer triangle is missing, whichever of its corners it might begin with.
 fn no_outer_triangle(mesh: &Mesh) -> bool {
     !mesh.triangles.iter().any(|t| [[0, 2, 1], [2, 1, 0], [1, 0, 2]].contains(t))
 }
 
-/// 8: "some vertex is in no triangle, or a turn round it doesn't meet all its triangles".
+/// 8: a vertex without a triangle, or one whose triangles are not all passed on the way round it.
 fn turn_misses(mesh: &Mesh) -> bool {
     (0..mesh.n as u16).any(|v| {
         let own: Vec<&[u16; 3]> = mesh.triangles.iter().filter(|t| t.contains(&v)).collect();
@@ -144,13 +146,13 @@ fn turn_misses(mesh: &Mesh) -> bool {
     })
 }
 
-/// 9: "wood indices 0 to 8 differ from the above, or a target is n or more".
+/// 9: the anchors' nine places are not as they must be, or a target is no vertex.
 fn wrong_index(mesh: &Mesh) -> bool {
     let anchors = [UNUSED, UNUSED, UNUSED, 0, UNUSED, UNUSED, 0, 1, UNUSED];
     mesh.wood[..9] != anchors || mesh.wood[9..].iter().any(|&target| target as usize >= mesh.n)
 }
 
-/// 10: "an edge joins no two neighbours, or two edges join the same pair".
+/// 10: an edge along no side, or along another edge.
 fn wrong_pair(mesh: &Mesh) -> bool {
     let pair = |e: usize| (source(e).min(mesh.wood[e]), source(e).max(mesh.wood[e]));
     let edges: Vec<usize> = (0..mesh.wood.len()).filter(|&e| used(e)).collect();
@@ -158,7 +160,7 @@ fn wrong_pair(mesh: &Mesh) -> bool {
         || edges.iter().any(|&e| edges.iter().any(|&d| d < e && pair(d) == pair(e)))
 }
 
-/// 11: "an edge 9 or above that ends at an anchor has that anchor's number as its colour".
+/// 11: an inner vertex sends an anchor an edge of another colour than the anchor's number.
 fn anchor_rule_broken(mesh: &Mesh) -> bool {
     (9..mesh.wood.len()).any(|e| mesh.wood[e] < 3 && e % 3 != mesh.wood[e] as usize)
 }
@@ -184,7 +186,7 @@ fn see(mesh: &Mesh, v: u16, x: u16) -> Option<Seen> {
     Some(if source(edge) == v { Seen::Out(edge % 3) } else { Seen::In(edge % 3) })
 }
 
-/// "out 0, any number in 2, out 1, any number in 0, out 2, any number in 1"
+/// From the edge out of colour c to the one of colour c+1 there are only edges in, all of colour c+2.
 fn follows_turn_rule(seen: &[Seen]) -> bool {
     let mut rest = seen;
     for (out, coming) in [(0, 2), (1, 0), (2, 1)] {
@@ -199,7 +201,7 @@ fn follows_turn_rule(seen: &[Seen]) -> bool {
     rest.is_empty()
 }
 
-/// 13: "from each inner vertex, following one colour c ends at anchor c. This holds for all three colours."
+/// 13: a path of one colour that does not lead to its anchor.
 fn path_rule_broken(mesh: &Mesh) -> bool {
     (3..mesh.n).any(|v| (0..3).any(|c| path_end(mesh, v, c) != Some(c)))
 }
@@ -224,7 +226,7 @@ struct Beside {
     z: u16,
 }
 
-/// "w is the third corner of the triangle with side u to v (left), z that of the one with side v to u (right)"
+/// w is across the triangle on the left of the edge, z across the one on its right.
 fn beside(mesh: &Mesh, j: usize) -> Beside {
     let (u, v) = (source(j), mesh.wood[j]);
     let corner = |a, b| third(mesh, a, b).expect("each side of an accepted mesh has its triangle");
@@ -247,7 +249,8 @@ pub struct Answers {
     pub right_back: usize,
 }
 
-/// "LeftFront joins v and w, RightFront v and z, LeftBack u and w, RightBack u and z."
+/// A neighbouring edge is found by the two corners that it joins: w on the left and z on the right, with the target v in front and
+/// the source u at the back.
 pub fn answers(mesh: &Mesh, j: usize) -> Answers {
     let Beside { u, v, w, z } = beside(mesh, j);
     Answers {
@@ -259,6 +262,15 @@ pub fn answers(mesh: &Mesh, j: usize) -> Answers {
         left_back: joins(mesh, u, w),
         right_back: joins(mesh, u, z),
     }
+}
+
+/// The edge that stands for u: of the edges between u and the other corners of its triangles the lowest that leaves u; at 0, which
+/// none leaves, the lowest of all.
+pub fn edge_of(mesh: &Mesh, u: u16) -> usize {
+    let corners = mesh.triangles.iter().filter(|t| t.contains(&u)).flatten();
+    let edges: Vec<usize> = corners.filter(|&&x| x != u).map(|&x| joins(mesh, u, x)).collect();
+    let leaving = edges.iter().filter(|&&e| source(e) == u).min();
+    *leaving.or(edges.iter().min()).expect("each vertex of an accepted mesh is in a triangle")
 }
 
 /// Steps clockwise round the target v of j, to the other end of the edge that tells v: edge 3 at anchor 0, edge 7 at anchor 1,
@@ -278,7 +290,7 @@ fn reads(mesh: &Mesh, j: usize) -> usize {
     steps
 }
 
-/// The array of a mesh whose sides all have their edges, as document 01's "The array" says.
+/// The array of a mesh whose sides all have their edges (docs/SPECIFICATION.md, section 5).
 pub fn build(mesh: &Mesh) -> Array {
     let mut references = vec![UNUSED; 6 * mesh.n];
     let mut service = vec![0; 3 * mesh.n];

@@ -44,11 +44,12 @@ fn numbers(program: Program, output: &[u8]) -> Vec<u8> {
     all
 }
 
-/// The refusals in a line of answers.
+/// The refusals in a line of answers: six about an edge, the second with reads, or one about a vertex.
 fn refusals(line: &str) -> Vec<u8> {
+    let fields = if line.starts_with("06") { 6 } else { 1 };
     let mut rest = &line[5..];
     let mut all = Vec::new();
-    for field in 0..6 {
+    for field in 0..fields {
         if let Some(number) = rest.strip_prefix("F0") {
             all.push(u8::from_str_radix(&number[..2], 16).expect("two digits"));
             rest = &rest[4..];

@@ -10,7 +10,7 @@ use crate::reading;
 use crate::rebuild::rebuild;
 use crate::rng::Rng;
 use crate::shrink::shrink;
-use crate::slow::{answers, build, third, used, verdict, Mesh};
+use crate::slow::{answers, build, edge_of, source, third, used, verdict, Array, Mesh};
 use crate::sphere::FAMILIES;
 use crate::tally::Tally;
 use crate::text::{read_array, read_mesh, write_array, write_mesh};
@@ -27,7 +27,7 @@ fn pieces_meet_their_numbers() {
 }
 
 #[test]
-fn pieces_answer_as_document_01_says() {
+fn pieces_answer_as_they_must() {
     let four = build(&pieces::four());
     assert_eq!(reading::target(&four, 6), Ok((0, 2)));
     assert_eq!(reading::target(&four, 3), Ok((0, 0)));
@@ -43,9 +43,11 @@ fn the_whole_example() {
     assert_eq!(says(Program::Meshlines, input), output);
     assert_eq!(says(Program::Rebuildlines, output).lines().next(), Some("00004"));
     let lines = says(Program::Answers, output);
-    assert_eq!(lines.lines().count(), 13);
+    assert_eq!(lines.lines().count(), 13 + 5);
     assert_eq!(lines.lines().next(), Some("06000F00EF00EF00EF00EF00EF00E"));
     assert_eq!(lines.lines().nth(6), Some("060060002000000200090003000B0007"));
+    let vertices: Vec<&str> = lines.lines().skip(13).collect();
+    assert_eq!(vertices, ["070000003", "070010003", "070020006", "070030009", "07004F00F"]);
 }
 
 #[test]
@@ -64,6 +66,11 @@ fn every_family_is_accepted_and_agrees_with_itself() {
                 assert!(a.reads <= n - 2);
                 assert_eq!(reading::left_back(&array, j), Ok(a.left_back));
                 assert_eq!(reading::right_back(&array, j), Ok(a.right_back));
+            }
+            for u in 0..n {
+                let e = edge_of(&mesh, u as u16);
+                assert_eq!(reading::edge(&array, u), Ok(e));
+                assert!(used(e) && (source(e) as usize == u || mesh.wood[e] as usize == u));
             }
         }
     }
@@ -181,6 +188,25 @@ fn torn_readings() {
     assert_eq!(reading::left_front(&array, 6), Ok(6));
     assert_eq!(reading::left_front(&array, 8), Err(14));
     assert_eq!(reading::left_front(&array, 12), Err(14));
+}
+
+#[test]
+fn edge_reads_no_table() {
+    let empty = |n| Array { n, references: Vec::new(), service: Vec::new() };
+    for (n, u, answer) in [
+        (2, 0, Err(1)),
+        (1_025, 0, Err(1)),
+        (2, 9, Err(1)),
+        (3, 0, Ok(3)),
+        (3, 1, Ok(3)),
+        (3, 2, Ok(6)),
+        (3, 3, Err(15)),
+        (1_024, 1_023, Ok(3_069)),
+        (1_024, 1_024, Err(15)),
+        (1_024, 65_535, Err(15)),
+    ] {
+        assert_eq!(reading::edge(&empty(n), u), answer, "n {n}, vertex {u}");
+    }
 }
 
 #[test]

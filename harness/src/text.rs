@@ -1,13 +1,15 @@
-//! The texts: house text as document 01 describes it, and the array text that `meshlines` writes and the other two programs read.
+//! The texts (docs/SPECIFICATION.md, sections 10 and 11): house text, and the array text that `meshlines` writes and the other two
+//! programs read.
 
 use crate::reading;
 use crate::slow::{used, Array, Mesh, FEWEST, MOST, UNUSED};
 
-pub const LONGEST: usize = 36_786;
+/// The head, and a frame for each triangle and each inner vertex of the largest mesh.
+pub const LONGEST: usize = 6 + 12 * (2 * MOST - 4 + MOST - 3);
 pub const TOO_LONG: u8 = 19;
 pub const NOT_THE_FORM: u8 = 20;
 
-/// "0F and the number in two digits"
+/// A refusal's line.
 pub fn refusal(number: u8) -> Vec<u8> {
     format!("0F{number:02X}\n").into_bytes()
 }
@@ -43,8 +45,7 @@ fn head(line: &[u8]) -> Option<usize> {
     number(&line[2..]).map(usize::from)
 }
 
-/// House text as `meshlines` reads it: 19, then 20. What n asks is the verdict's to test: "only a wrong number of triangle or
-/// vertex frames is 2".
+/// House text as `meshlines` reads it: 19, then 20. How many frames there are is no matter of the form: the verdict tests it.
 pub fn read_mesh(text: &[u8]) -> Result<Mesh, u8> {
     if text.len() > LONGEST {
         return Err(TOO_LONG);
@@ -56,7 +57,7 @@ fn frames(text: &[u8]) -> Option<Mesh> {
     let lines = lines(text)?;
     let n = head(lines[0])?;
     let mut triangles = Vec::new();
-    // "The reader supplies wood indices 0 to 8."
+    // No text says the anchors' part.
     let mut wood = vec![UNUSED, UNUSED, UNUSED, 0, UNUSED, UNUSED, 0, 1, UNUSED];
     for line in &lines[1..] {
         if line.len() != 11 {
@@ -104,7 +105,7 @@ fn array_frames(n: usize, text: &[u8]) -> Option<Array> {
     Some(array)
 }
 
-/// "the digits FFF stand for 65,535"
+/// Three digits do not reach 65,535, so `FFF` stands for it.
 fn marked(value: u16) -> u16 {
     if value == 0xFFF {
         UNUSED
@@ -124,7 +125,7 @@ pub fn write_mesh(mesh: &Mesh) -> Vec<u8> {
     text.into_bytes()
 }
 
-/// "for each edge ascending: 03, edge, LeftFront, RightFront (three digits each), service (one digit)"
+/// The head, then a frame for each edge: its index, both references, the service byte as one digit.
 pub fn write_array(array: &Array) -> Vec<u8> {
     let mut text = format!("00{:03X}\n", array.n);
     for e in (0..3 * array.n).filter(|&e| used(e)) {
@@ -134,20 +135,24 @@ pub fn write_array(array: &Array) -> Vec<u8> {
     text.into_bytes()
 }
 
-/// What `answers` writes about an array: a line for each index from 0 to 3n.
+/// What `answers` writes: a line for each index from 0 to 3n, then one for each vertex from 0 to n.
+pub fn answer_lines(n: usize, about_edge: impl Fn(usize) -> String, about_vertex: impl Fn(usize) -> String) -> Vec<u8> {
+    let edges = (0..=3 * n).map(|j| format!("06{j:03X}{}\n", about_edge(j)));
+    let vertices = (0..=n).map(|u| format!("07{u:03X}{}\n", about_vertex(u)));
+    edges.chain(vertices).collect::<String>().into_bytes()
+}
+
+/// The lines of an array, by its readings.
 pub fn write_answers(array: &Array) -> Vec<u8> {
-    let mut text = String::new();
-    for j in 0..=3 * array.n {
-        text += &format!("06{j:03X}");
-        text += &plain(reading::source(array, j));
-        text += &with_reads(reading::target(array, j));
-        text += &plain(reading::left_front(array, j));
-        text += &plain(reading::right_front(array, j));
-        text += &plain(reading::left_back(array, j));
-        text += &plain(reading::right_back(array, j));
-        text.push('\n');
-    }
-    text.into_bytes()
+    let about_edge = |j: usize| {
+        let mut line = plain(reading::source(array, j));
+        line += &with_reads(reading::target(array, j));
+        line += &plain(reading::left_front(array, j));
+        line += &plain(reading::right_front(array, j));
+        line += &plain(reading::left_back(array, j));
+        line + &plain(reading::right_back(array, j))
+    };
+    answer_lines(array.n, about_edge, |u| plain(reading::edge(array, u)))
 }
 
 /// An answer: 0 and the value in three digits; F0 and the refusal's number in two.
