@@ -105,3 +105,13 @@ come-back f m i n (suc k) x l =
       iterate-add f r (b .0) (iterate f (suc k) x) ∙ ap (λ y. iterate f r (iterate f (b .0) y)) (iterate-suc f k x) ∙
           ap (iterate f r) (b .1) ∙ sym (iterate-suc f r x) ∙ period f m x l i n,
     )
+
+-- steps that stay below n come to a number, if at all, within n of them: the shortest way there passes nothing twice
+pub short-of : (f : ℕ → ℕ) (n x y k : ℕ) → ((i : ℕ) → iterate f i x < n) → iterate f k x ≡ y
+    → (m : ℕ) × (m < n) × (iterate f m x ≡ y) × ((i : ℕ) → i < m → iterate f i x ≢ y)
+short-of f n x y k low e =
+    let m = least f x y k e in
+    let p =
+    pigeon (suc (m .0)) n (λ i. iterate f i x) (λ z. true) (λ i _. low i) (λ i _. refl) (least-apart f x y (m .0) (m .1) (m .2)) in
+    let c = count-all n in
+    (m .0, omega arith, m .1, m .2)

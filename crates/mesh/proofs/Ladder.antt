@@ -1,12 +1,12 @@
 -- What a ladder says, by induction on its rungs: it gives 0 exactly where no fault applies, and number k exactly where k's fault
 -- applies and none before it. For this its numbers are above 0 and all different (`proper`, a test that computes).
-use Prim.Native.Nat.{ℕ}
+use Prim.Native.Nat.{ℕ, _≤_}
 use mathlib.Core.Path.{_≡_, refl, sym, _∙_, subst}
 use mathlib.Core.List.{List, [], _∷_, _++_}
 use mathlib.Core.Bool.{Bool, true, false, not, _&&_, _||_}
 use mathlib.Core.Logic.{_≢_}
-use lib.Dec.{eqb}
-use borrow.Author.Tests.{eqb-true, eqb-false, eq-eqb, not-true}
+use lib.Dec.{leb, eqb}
+use borrow.Author.Tests.{leb-true, eqb-true, eqb-false, eq-eqb, not-true}
 use Rattle.mesh.specs.Ladder.{Rung, rung, firstOf, applies, numbers, NoneApplies, end, past, NoneBefore, here, past-one}
 use Rattle.mesh.proofs.Tests.{byBool, clash, and-true, and-of, or-true, or-left, or-right}
 
@@ -109,6 +109,18 @@ first-among [] z = absurd (z refl)
 first-among (rung k fault ∷ l) z =
     byBool fault (λ t. rw t (or-left (eqb k k) (among k (numbers l)) (eq-eqb k k refl)))
     (λ t. rw t (or-right (eqb k (firstOf l)) (among (firstOf l) (numbers l)) (first-among l (rw t at z))))
+
+-- where each number is m or more, so is the one given
+unfoldable pub above : ℕ → List ℕ → Bool
+above m [] = true
+above m (k ∷ ks) = leb m k && above m ks
+
+pub first-above : (m : ℕ) (l : List Rung) → above m (numbers l) ≡ true → firstOf l ≢ 0 → m ≤ firstOf l
+unfolding firstOf above
+first-above m [] a z = absurd (z refl)
+first-above m (rung k fault ∷ l) a z =
+    let b = and-true (leb m k) (above m (numbers l)) a in
+    byBool fault (λ t. rw t (leb-true m k (b .0))) (λ t. rw t (first-above m l (b .1) (rw t at z)))
 
 -- number i stands before number k
 unfoldable pub earlier : ℕ → ℕ → List ℕ → Bool

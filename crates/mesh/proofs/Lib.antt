@@ -12,9 +12,10 @@ pub mod SameList
 pub mod Positions
 pub mod Paired
 pub mod Round
--- The wood: labels, and the turn rule as a law of neighbouring labels.
+-- The wood: labels, the turn rule as a law of neighbouring labels, paths along one colour.
 pub mod Labels
 pub mod TurnRule
+pub mod Paths
 -- Ladders of numbers, and the mesh's; Target's walk on any array.
 pub mod Ladder
 pub mod Verdict

@@ -114,3 +114,11 @@ every-fails p m e =
     let k : ℕ = first (λ k. not (p k)) m in
     let l : k < m = leb-false m k e in
     (k, l, not-true (p k) (first-law (λ k. not (p k)) m .hit l))
+
+-- a place that is the first one: below the bound there is one, at the bound there is none
+module _ (p : ℕ → Bool) (m r : ℕ) (e : r ≡ first p m) where
+  pub place-below : r < m → some p m ≡ true
+  place-below l = some-is p m ∙ lt-ltb (first p m) m (omega arith)
+
+  pub place-none : m ≤ r → some p m ≡ false
+  place-none l = some-is p m ∙ le-ltb (first p m) m (omega arith)

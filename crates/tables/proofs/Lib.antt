@@ -3,3 +3,4 @@ pub mod EdgeLaws
 pub mod TriangleLaws
 pub mod OutcomeLaws
 pub mod CheckedLaws
+pub mod TableLaws

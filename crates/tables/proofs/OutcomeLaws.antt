@@ -31,3 +31,8 @@ module _ (k : ℕ) (new old : List ℕ) where
 
   pub left-marked : 3 ≤ k → leaves k new old ≡ replicate (length old) unusedMark
   left-marked l = rw (ne-eqb k 0 (λ e. omega arith), le-ltb k 3 l)
+
+-- a refusal carries its number
+pub refused-number : (j k : ℕ) → Refused j ≡ outcome k → (j ≡ k) × (k ≢ 0)
+refused-number j zero h = absurd (let z : _≡_ {A = ℕ} 0 1 = cc in omega arith)
+refused-number j (suc k) h = let s : j ≡ suc k = cc in (s, λ e. omega arith)

@@ -22,7 +22,8 @@ use Rattle.mesh.proofs.Search.{every-at}
 use Rattle.mesh.proofs.Iterate.{iterate-zero, iterate-step}
 use Rattle.mesh.proofs.Positions.{next-in, next-div, next-3, same-triangle, sideAt-law}
 use Rattle.mesh.specs.Paired.{Paired, twin, turn}
-use Rattle.mesh.proofs.Paired.{paired, next-within, simple, third-is, twin-2, twin-from, turn-from, turns-to, neighbour-side}
+use Rattle.mesh.proofs.Verdict.{table-part, table-paired}
+use Rattle.mesh.proofs.Paired.{next-within, simple, third-is, twin-2, twin-from, turn-from, turns-to, neighbour-side}
 use Rattle.mesh.proofs.Round.{turn-closes, turn-steps, turn-meets, turn-meets-once}
 use Rattle.mesh.proofs.Labels.{sees-out}
 use Rattle.mesh.proofs.TurnRule.{Step, rule-steps}
@@ -56,7 +57,7 @@ module _ (n : ℕ) (ts ws : List ℕ) (A : Clear n ts ws) where
   whole = let a = enough in let b = triangles-length in omega arith
 
   pub pairs : Paired n ts
-  pairs = paired n (2 * n - 4) ts whole (free A 3) (free A 4) (free A 5) (free A 6)
+  pairs = table-paired n ts triangles-length (table-part n ts ws A)
 
   pub meets-all : (p q : ℕ) → p < length ts → q < length ts → from ts p ≡ from ts q → (k : ℕ) × (iterate (λ x. twin ts (next (next x))) k p ≡ q)
   unfolding turn

@@ -1,17 +1,15 @@
 -- Sides, triangles and turns as the mesh says them, over a table whose sides come in pairs: a side is there exactly when the search
 -- finds it, the triangle on a side is the one of its third corner, and so a turn round a vertex is the iteration of `third`.
 use Prim.Native.Nat.{ℕ, zero, suc, _<_}
-use mathlib.Core.Path.{_≡_, refl, sym, ap, _∙_, subst}
+use mathlib.Core.Path.{_≡_, sym, ap, _∙_, subst}
 use mathlib.Core.List.{List}
-use mathlib.Core.Bool.{true}
 use mathlib.Core.Logic.{_≢_}
 use native.Mathlib.Omega.{arith}
 use lib.ListN.{length}
 use Rattle.mesh.specs.Search.{iterate}
 use Rattle.mesh.specs.Sides.{from, to, sideAt, third, turnLength}
 use Rattle.mesh.specs.Mesh.{Triangle, Side, Round, here, onward}
-use Rattle.mesh.proofs.Count.{pigeon, count-all}
-use Rattle.mesh.proofs.Iterate.{iterate-zero, iterate-step, iterate-suc, least, least-apart}
+use Rattle.mesh.proofs.Iterate.{iterate-zero, iterate-step, iterate-suc}
 use Rattle.mesh.proofs.Positions.{sideAt-law, sideAt-le}
 use Rattle.mesh.specs.Paired.{Paired, twin, turn}
 use Rattle.mesh.proofs.Paired.{twin-from, twin-to, to-in, simple, third-is, turn-in, turn-from, turn-to, turns-in, turns-from, turns-to}
@@ -25,15 +23,6 @@ pub found-side : (ts : List ℕ) (a b : ℕ) → sideAt ts a b < length ts → S
 found-side ts a b l =
     let h = sideAt-law ts a b l in
     record { position = sideAt ts a b; within = l; starts = h .0; ends = h .1 }
-
--- steps that stay below n come to a number, if at all, within n of them: the shortest way there passes nothing twice
-pub short-of : (f : ℕ → ℕ) (n x y k : ℕ) → ((i : ℕ) → iterate f i x < n) → iterate f k x ≡ y → (m : ℕ) × (m < n) × (iterate f m x ≡ y) × ((i : ℕ) → i < m → iterate f i x ≢ y)
-short-of f n x y k low e =
-    let m = least f x y k e in
-    let p =
-    pigeon (suc (m .0)) n (λ i. iterate f i x) (λ z. true) (λ i _. low i) (λ i _. refl) (least-apart f x y (m .0) (m .1) (m .2)) in
-    let c = count-all n in
-    (m .0, omega arith, m .1, m .2)
 
 module _ (n : ℕ) (ts : List ℕ) (P : Paired n ts) where
   pub starts-below : (a b : ℕ) → Side ts a b → a < n

@@ -1,29 +1,20 @@
 -- Number 13, and the path rule: n steps along a colour end at its anchor exactly when the path does, since a path that ends passes
 -- no vertex twice and so has fewer than n steps. And the reach: along colour 0 each vertex comes to 0, and sides run both ways.
-use Prim.Native.Nat.{ℕ, zero, suc, _+_, _-_, _*_, _≤_, _<_}
+use Prim.Native.Nat.{ℕ, zero, suc, _*_, _≤_, _<_}
 use mathlib.Core.Path.{_≡_, refl, sym, ap, _∙_, subst}
 use mathlib.Core.List.{List}
 use mathlib.Core.Bool.{false, not}
 use native.Mathlib.Omega.{arith}
 use lib.Dec.{leb, ltb, eqb}
-use borrow.Author.Tests.{ltb-true, ltb-false, lt-ltb, le-ltb, leb-true, leb-false, eqb-true, eq-eqb, not-false}
+use borrow.Author.Tests.{ltb-true, ltb-false, leb-true, leb-false, eqb-true, eq-eqb, not-false}
 use Rattle.mesh.specs.Search.{some, iterate}
 use Rattle.mesh.specs.Wood.{source, target, edgeOf, along}
 use Rattle.mesh.specs.Verdict.{pathFault}
 use Rattle.mesh.specs.Mesh.{Side, Path, arrived, step, Reached, start, along-side}
 use Rattle.mesh.proofs.Tests.{byBool, and-fails, and-false-left, and-false-right, by3}
 use Rattle.mesh.proofs.Search.{some-none, none-some}
-use Rattle.mesh.proofs.Iterate.{iterate-zero, iterate-suc, iterate-add, iterate-fixed, iterate-keeps}
-use Rattle.theorems.proofs.Acceptance.Corners.{short-of}
-
--- one step: an anchor stays, an inner vertex goes to its target
-along-anchor : (ws : List ℕ) (c v : ℕ) → v < 3 → along ws c v ≡ v
-unfolding along
-along-anchor ws c v l = rw (lt-ltb v 3 l)
-
-along-inner : (ws : List ℕ) (c v : ℕ) → 3 ≤ v → along ws c v ≡ target ws (edgeOf v c)
-unfolding along
-along-inner ws c v l = rw (le-ltb v 3 l)
+use Rattle.mesh.proofs.Iterate.{iterate-zero, iterate-suc, iterate-fixed}
+use Rattle.mesh.proofs.Paths.{along-anchor, along-inner, ends-in-time}
 
 steps-path : (ws : List ℕ) (c k v : ℕ) → c < 3 → iterate (along ws c) k v ≡ c → Path ws c v c
 steps-path ws c zero v l e = subst (λ x. Path ws c x c) (sym e ∙ iterate-zero (along ws c) v) (arrived l)
@@ -53,22 +44,8 @@ module _ (n : ℕ) (ws : List ℕ) where
       (not-false (eqb (iterate (along ws c) n v) c) (some-none (λ c. not (eqb (iterate (along ws c) n v) c)) 3 t c lc))))
 
   module _ (targets : (e : ℕ) → 9 ≤ e → e < 3 * n → target ws e < n) where
-    stays-below : (c : ℕ) → c < 3 → (v : ℕ) → v < n → along ws c v < n
-    stays-below c lc v l =
-        byBool (ltb v 3) (λ t. rw (along-anchor ws c v (ltb-true v 3 t)) l)
-        (λ t.
-        let h : 3 ≤ v = ltb-false v 3 t in
-        rw (along-inner ws c v h) (targets (edgeOf v c) (omega arith) (omega arith)))
-
-    -- n steps suffice
-    pub ends-in-time : (v c : ℕ) → v < n → c < 3 → Path ws c v c → iterate (along ws c) n v ≡ c
-    ends-in-time v c l lc p =
-        let f : ℕ → ℕ = along ws c in
-        let r = path-steps ws c p in
-        let m = short-of f n v c (r .1) (λ i. iterate-keeps (λ x. x < n) f (stays-below c lc) i v l) (r .2) in
-        let s : n - m .0 + m .0 ≡ n = (let g = m .1 in omega arith) in
-        ap (λ (k : ℕ). iterate f k v) (sym s) ∙ iterate-add f (n - m .0) (m .0) v ∙ ap (iterate f (n - m .0)) (m .2) ∙
-        iterate-fixed f (n - m .0) c (along-anchor ws c c lc)
+    path-in-time : (v c : ℕ) → v < n → c < 3 → Path ws c v c → iterate (along ws c) n v ≡ c
+    path-in-time v c l lc p = let r = path-steps ws c p in ends-in-time n ws targets c lc (r .1) v l (r .2)
 
     pub paths-right : ((v c : ℕ) → 3 ≤ v → v < n → c < 3 → Path ws c v c) → some (pathFault n ws) n ≡ false
     unfolding pathFault
@@ -77,7 +54,7 @@ module _ (n : ℕ) (ws : List ℕ) where
         (λ v l. byBool (leb 3 v)
         (λ t. and-false-right (leb 3 v) (some (λ c. not (eqb (iterate (along ws c) n v) c)) 3)
         (none-some (λ c. not (eqb (iterate (along ws c) n v) c)) 3
-        (λ c lc. rw (eq-eqb (iterate (along ws c) n v) c (ends-in-time v c l lc (rule v c (leb-true 3 v t) l lc))))))
+        (λ c lc. rw (eq-eqb (iterate (along ws c) n v) c (path-in-time v c l lc (rule v c (leb-true 3 v t) l lc))))))
         (λ t. and-false-left (leb 3 v) (some (λ c. not (eqb (iterate (along ws c) n v) c)) 3) t))
 
 -- the reach

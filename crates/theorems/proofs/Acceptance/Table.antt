@@ -17,10 +17,11 @@ use Rattle.mesh.specs.Verdict.{wrongLengths, cornerFault, equalFault, repeatFau
 use Rattle.mesh.specs.Mesh.{Side, Round, CornersBelow, CornersDiffer, SidesOnce, SidesReversed, OuterTriangle, InTriangles, OneTurn}
 use Rattle.mesh.proofs.Tests.{byBool, and-true, and-false-left, and-false-right, or-none}
 use Rattle.mesh.proofs.Search.{first-law, some-of, some-none, none-some, some-is}
+use Rattle.mesh.proofs.Iterate.{short-of}
 use Rattle.mesh.proofs.Positions.{sideAt-law, sideAt-le, sideAt-only, third-at, third-none}
 use Rattle.mesh.proofs.Paired.{paired, neighbour-side, side-neighbour}
 use Rattle.mesh.proofs.Round as round
-use Rattle.theorems.proofs.Acceptance.Corners.{side-found, found-side, short-of, ends-below, sides-on, round-of, of-round, steps-to}
+use Rattle.theorems.proofs.Acceptance.Corners.{side-found, found-side, ends-below, sides-on, round-of, of-round, steps-to}
 
 -- 2: the lengths
 pub tied-2 : (n : ℕ) (ts ws : List ℕ) → (wrongLengths n ts ws ≡ false) ↔ ((length ts ≡ trianglesLength n) × (length ws ≡ woodLength n))
