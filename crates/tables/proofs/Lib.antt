@@ -4,3 +4,5 @@ pub mod TriangleLaws
 pub mod OutcomeLaws
 pub mod CheckedLaws
 pub mod TableLaws
+pub mod HandLaws
+pub mod PaintLaws
