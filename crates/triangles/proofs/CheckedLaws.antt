@@ -1,10 +1,9 @@
 -- The check of a triangle table, end by end: which ends its contract allows, that no two differ, and what "done" and a refusal say.
-use Prim.Native.Nat.{ℕ, _-_, _*_, _≤_, _<_}
+use Prim.Native.Nat.{ℕ, _≤_, _<_}
 use mathlib.Core.Path.{_≡_, refl, sym, ap, _∙_}
 use mathlib.Core.List.{List}
 use mathlib.Core.Bool.{true, false, not, _&&_}
 use mathlib.Core.Logic.{_≢_}
-use native.Mathlib.Omega.{arith}
 use lib.ListN.{length, replicate}
 use lib.Dec.{eqb}
 use borrow.Author.Tests.{eqb-true, eq-eqb, ne-eqb, not-false}
@@ -14,8 +13,8 @@ use Rattle.mesh.specs.Ladder.{firstOf, NoneApplies, past}
 use Rattle.mesh.specs.Verdict.{tableLadder, sized}
 use Rattle.mesh.proofs.Tests.{and-true, and-of, and-false-left, and-false-right}
 use Rattle.mesh.proofs.Limits.{in-range, range-in}
-use Rattle.mesh.proofs.Ladder.{stands, falls, free, first-none, among, proper, above, first-above}
-use Rattle.mesh.proofs.Paired.{paired}
+use Rattle.mesh.proofs.Ladder.{stands, falls, first-none, among, proper, above, first-above}
+use Rattle.mesh.proofs.Verdict.{table-paired}
 use Rattle.tables.specs.declared.outcome.Outcome.{Outcome}
 use Rattle.tables.specs.declared.outcome.Outcome.the-variants.{Done, Refused}
 use Rattle.tables.specs.Outcome.{outcome, leaves}
@@ -97,8 +96,7 @@ module _ {n : ℕ} {ts twins : List ℕ} where
           }
 
   pub done-paired : {twins′ : List ℕ} → TrianglesDone n ts twins twins′ → Paired n ts
-  done-paired d =
-      paired n (2 * n - 4) ts (let s = d .sizes in omega arith) (free (d .clear) 3) (free (d .clear) 4) (free (d .clear) 5) (free (d .clear) 6)
+  done-paired d = table-paired n ts (d .sizes .triangles-length) (d .clear)
 
   -- refused although the sizes are right: by one of the triangles' numbers, and nothing but marks is left
   pub triangles-refused : {r : Outcome} {twins′ : List ℕ} {k : ℕ} → TrianglesChecked n ts twins r twins′ → r ≡ Refused k → RightSizes n ts twins

@@ -1,7 +1,7 @@
 -- The check of a mesh, end by end: what 3 to 13 answer together, which ends the contract allows, that no two of them differ, and what
 -- "done" and a refusal say to a caller.
 use Prim.Native.Nat.{ℕ, _≤_, _<_}
-use mathlib.Core.Path.{_≡_, refl, sym, ap, subst, _∙_}
+use mathlib.Core.Path.{_≡_, refl, sym, ap, _∙_}
 use mathlib.Core.List.{List}
 use mathlib.Core.Bool.{Bool, true, false, not}
 use mathlib.Core.Logic.{_≢_}
@@ -20,7 +20,7 @@ use Rattle.tables.specs.declared.outcome.Outcome.{Outcome}
 use Rattle.tables.specs.declared.outcome.Outcome.the-variants.{Done, Refused}
 use Rattle.tables.specs.Outcome.{outcome, leaves}
 use Rattle.tables.specs.Checked.{twinsOf, positionsOf}
-use Rattle.tables.proofs.CheckedLaws.{twins-each, positions-each}
+use Rattle.tables.proofs.CheckedLaws.{twins-read, positions-each}
 use Rattle.tables.proofs.OutcomeLaws.{refused-is, outcome-once, refused-number, left-filled, left-alone, left-marked}
 use Rattle.triangles.specs.Table.{RightSizes}
 use Rattle.triangles.specs.Checked.{TrianglesChecked, TrianglesDone}
@@ -58,7 +58,7 @@ module _ (n : ℕ) (ts ws twins positions : List ℕ) (S : MeshSizes n ts ws twi
       filled =
           record {
             meshed = meshed;
-            twin-table = λ p l. ap (λ x. at x p) (done .reverses) ∙ twins-each ts p l;
+            twin-table = twins-read ts twins′ (done .reverses);
             position-table = λ e l. ap (λ x. at x e) f ∙ positions-each n ts ws e l;
           }
 
@@ -144,17 +144,18 @@ module _ (n : ℕ) (ts ws twins positions : List ℕ) where
         (e ∙ ap (λ (m : ℕ). replicate m unusedMark) g ∙ sym (left-marked k (twinsOf ts) twins l))
         (f ∙ ap (λ (m : ℕ). replicate m unusedMark) h ∙ sym (left-marked k (positionsOf n ts ws) positions l))
 
+module _ {n : ℕ} {ts ws twins positions : List ℕ} where
   -- two ends that it allows are equal
-  pub mesh-once : (r s : Outcome) (a b c d : List ℕ) → MeshChecked n ts ws twins positions r a b → MeshChecked n ts ws twins positions s c d
+  pub mesh-once : {r s : Outcome} {a b c d : List ℕ} → MeshChecked n ts ws twins positions r a b → MeshChecked n ts ws twins positions s c d
       → (r ≡ s) × (a ≡ c) × (b ≡ d)
-  mesh-once r s a b c d g h =
-      (g .answer ∙ sym (h .answer), g .reverses ∙ sym (h .reverses), g .edge-positions ∙ sym (h .edge-positions))
+  mesh-once g h = (g .answer ∙ sym (h .answer), g .reverses ∙ sym (h .reverses), g .edge-positions ∙ sym (h .edge-positions))
 
   -- done: no fault applies, and both outputs are filled
-  pub mesh-done : (twins′ positions′ : List ℕ) → MeshChecked n ts ws twins positions Done twins′ positions′ → MeshDone n ts ws twins′ positions′
+  pub mesh-done : {r : Outcome} {twins′ positions′ : List ℕ} → MeshChecked n ts ws twins positions r twins′ positions′ → r ≡ Done
+      → MeshDone n ts ws twins′ positions′
   unfolding meshSays among proper wrongLengths
-  mesh-done twins′ positions′ h =
-      let z : meshSays n ts ws twins positions ≡ 0 = sym (outcome-once 0 (meshSays n ts ws twins positions) (h .answer)) in
+  mesh-done {r} {twins′} {positions′} h d =
+      let z : meshSays n ts ws twins positions ≡ 0 = sym (outcome-once 0 (meshSays n ts ws twins positions) (sym d ∙ h .answer)) in
       from-none (first-none (sized n (not (meshLengths n ts ws twins positions)) (meshLadder n ts ws)) refl z)
       (h .reverses ∙ left-filled (meshSays n ts ws twins positions) (twinsOf ts) twins z)
       (h .edge-positions ∙ left-filled (meshSays n ts ws twins positions) (positionsOf n ts ws) positions z)
@@ -162,7 +163,7 @@ module _ (n : ℕ) (ts ws twins positions : List ℕ) where
       from-none : NoneApplies (sized n (not (meshLengths n ts ws twins positions)) (meshLadder n ts ws))
           → twins′ ≡ twinsOf ts → positions′ ≡ positionsOf n ts ws → MeshDone n ts ws twins′ positions′
       from-none (past a (past b c)) e f =
-          let s = mesh-sizes a _ refl b in
+          let s = mesh-sizes n ts ws twins positions a _ refl b in
           record {
             clear =
                 past a
@@ -173,9 +174,10 @@ module _ (n : ℕ) (ts ws twins positions : List ℕ) where
             edge-positions = f;
           }
 
-  -- refused although the sizes are right: by the mesh's own number
-  pub mesh-refused : (k : ℕ) (twins′ positions′ : List ℕ) → MeshSizes n ts ws twins positions → MeshChecked n ts ws twins positions (Refused k) twins′ positions′
-      → (k ≡ firstOf (meshLadder n ts ws)) × (k ≢ 0)
-  mesh-refused k twins′ positions′ s h =
-      let e = refused-number k (meshSays n ts ws twins positions) (h .answer) in
-      (e .0 ∙ says-mesh s, λ z. e .1 (sym (e .0) ∙ z))
+  -- refused although the sizes are right: by one of the mesh's own numbers
+  pub mesh-refused : {r : Outcome} {twins′ positions′ : List ℕ} {k : ℕ} → MeshChecked n ts ws twins positions r twins′ positions′ → r ≡ Refused k
+      → MeshSizes n ts ws twins positions → (firstOf (meshLadder n ts ws) ≡ k) × (3 ≤ k)
+  mesh-refused {r} {twins′} {positions′} {k} h d s =
+      let e = refused-number k (meshSays n ts ws twins positions) (sym d ∙ h .answer) in
+      let t = says-mesh n ts ws twins positions s in
+      (sym (e .0 ∙ t), rw (e .0 ∙ t) (mesh-number n ts ws (λ z. e .1 (t ∙ z))))

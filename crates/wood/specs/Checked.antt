@@ -12,7 +12,7 @@ use Rattle.tables.specs.Outcome.{outcome, leaves}
 use Rattle.tables.specs.Checked.{twinsOf, positionsOf}
 use Rattle.tables.specs.declared.outcome.Outcome.{Outcome}
 
--- the lengths of the triangles, the wood and the two outputs are those that n asks: an output has a place for each position, or edge
+-- the lengths of the triangles, the wood and the two outputs are those that n asks: one number for each position, one for each edge
 abbrev pub lengthsFit : ℕ → ℕ → ℕ → ℕ → ℕ → Bool
 lengthsFit n triangles wood twins positions =
     eqb triangles (trianglesLength n) && (eqb wood (woodLength n) && (eqb twins (trianglesLength n) && eqb positions (woodLength n)))

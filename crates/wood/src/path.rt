@@ -1,5 +1,5 @@
 // Number 13: the path rule. A walk along one colour marks each vertex that it passes with the one that it began at, and stops at a mark:
-// a walk before it left it, and ended at the anchor; or it is its own, and it goes round for ever. So a colour is followed once.
+// an earlier walk's, which ended at the anchor, or its own, and then it goes round for ever. So no edge is followed twice.
 ghost use mathlib.Core.Path.{_≡_};
 ghost use Prim.Native.Nat.{_<_};
 ghost use Rattle.mesh.specs.Search.{some};

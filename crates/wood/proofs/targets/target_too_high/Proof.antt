@@ -34,7 +34,7 @@ returns c =
     let d = c .before .before .before in
     let a = d .before .before .args in
     sym (some-of (targetFault (a .n) (a .ws .now)) (3 * a .n) (d .loop .e) (omega arith)
-    (target-high (a .n) (a .ws .now) (d .loop .e) (c .before .at .result) (c .before .at .ensures) (d .loop .inv .0) (c .if1 .taken)))
+    (target-high (a .n) (a .ws .now) (d .loop .e) (c .before .at .result) (c .before .at .ensures) (d .loop .inv .0) (omega arith)))
 
 add-e : tie.Need-add-e Inv-loop μ-loop
 add-e c = search needs
@@ -49,7 +49,7 @@ loop-again c =
       omega arith,
       omega arith,
       below-more _ _ (d .loop .inv .2)
-          (target-low (a .n) (a .ws .now) (d .loop .e) (c .before .at .result) (c .before .at .ensures) (c .if1 .left) (d .loop .inv .0)),
+          (target-low (a .n) (a .ws .now) (d .loop .e) (c .before .at .result) (c .before .at .ensures) (omega arith) (d .loop .inv .0)),
     )
 
 returns-2 : tie.Need-returns-2 Inv-loop μ-loop
