@@ -20,5 +20,8 @@ pub mod Paths
 pub mod Ladder
 pub mod Verdict
 pub mod Walk
+-- The rebuild: what a place of the references writes, and what is said of the decoded mesh.
+pub mod Written
+pub mod Says
 -- Small examples that compute.
 pub mod Samples

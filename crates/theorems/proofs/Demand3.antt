@@ -12,7 +12,7 @@ use Rattle.mesh.specs.Rebuild.{rebuildSays, rebuiltWood, rebuiltTriangles}
 use Rattle.mesh.proofs.Verdict.{verdict-clear}
 use Rattle.theorems.specs.SameMesh.{SameTriangles, GivenBack}
 use Rattle.theorems.proofs.Fronts.{references-length}
-use Rattle.theorems.proofs.Rebuilding.Says.{says-0-or-18, says-0}
+use Rattle.mesh.proofs.Says.{says-0-or-18, says-0}
 use Rattle.theorems.proofs.Rebuilding.Restored.{restored}
 
 -- every accepted mesh is given back from its references

@@ -7,5 +7,4 @@ pub mod Table
 pub mod Again
 pub mod Same
 pub mod RebuiltWood
-pub mod Says
 pub mod Restored

@@ -14,7 +14,7 @@ use Rattle.theorems.proofs.Accepted.{pairs, few}
 use Rattle.theorems.proofs.Rebuilding.Again.{table, table-third, table-clear, table-references}
 use Rattle.theorems.proofs.Rebuilding.Same.{same-triangles}
 use Rattle.theorems.proofs.Rebuilding.RebuiltWood.{rebuilt-wood}
-use Rattle.theorems.proofs.Rebuilding.Says.{triangles-is, says-0-of}
+use Rattle.mesh.proofs.Says.{triangles-is, says-0-of}
 
 module _ (n : ℕ) (ts ws : List ℕ) (A : Clear n ts ws) where
   pub rebuilt-table : rebuiltTriangles n (referencesOf n ts ws) ≡ table n ts ws A

@@ -22,11 +22,12 @@ use Rattle.mesh.proofs.Search.{first-law, first-le}
 use Rattle.mesh.proofs.Count.{count-inj, count-all}
 use Rattle.mesh.proofs.Positions.{next-div, next-mod, next-3, same-digits}
 use Rattle.mesh.proofs.Paired.{next-within}
+use Rattle.mesh.proofs.Written.{writes, written-length}
 use Rattle.mesh.specs.Verdict.{Clear}
 use Rattle.theorems.proofs.Accepted.{surface, pairs, marked, enough, triangles-length, whole}
 use Rattle.theorems.proofs.Rebuilding.Chunks.{nth, chunks-length, chunk-at}
 use Rattle.theorems.proofs.Rebuilding.Lowest.{place-inj, place-in, one-lowest, only-lowest}
-use Rattle.theorems.proofs.Rebuilding.Written.{writes, written-length, refs, placeOf, isLow, writes-low, written-is, position, position-is}
+use Rattle.theorems.proofs.Rebuilding.Written.{refs, placeOf, isLow, writes-low, written-is, position, position-is}
 use Rattle.theorems.proofs.Rebuilding.Permuted.{Permuted}
 
 module _ (n : ℕ) (ts ws : List ℕ) (A : Clear n ts ws) where

@@ -4,53 +4,35 @@
 use Prim.Native.Nat.{ℕ, _+_, _*_, _/_, _%_, _<_}
 use mathlib.Core.Path.{_≡_, refl, sym, ap, _∙_}
 use mathlib.Core.List.{List, [], _∷_}
-use mathlib.Core.Bool.{Bool, true, false, cond, _&&_}
+use mathlib.Core.Bool.{Bool, true, false, _&&_}
 use mathlib.Core.Logic.{_≢_}
 use native.Mathlib.Omega.{arith}
 use lib.ListN.{length}
-use lib.Dec.{ltb, eqb}
-use borrow.Author.Tests.{ltb-true, eqb-true, eqb-false, eq-eqb, ne-eqb}
+use lib.Dec.{ltb}
+use borrow.Author.Tests.{ltb-true, eq-eqb, ne-eqb}
 use Rattle.mesh.specs.Limits.{at}
 use Rattle.mesh.specs.Sides.{next, from, to, sideAt, third}
 use Rattle.mesh.specs.Wood.{out, into, bare, source, target, used, isEdge, labelOf, edgeAt}
 use Rattle.mesh.specs.Array.{Hand, left, right, frontPlace, handAt, cornerOn, front, referencesOf}
 use Rattle.mesh.specs.Rebuild.{otherEnd, cornerBeside, isLowest, triangleBeside, writtenAt}
-use Rattle.mesh.proofs.Tests.{byBool, and-true}
+use Rattle.mesh.proofs.Tests.{and-true}
 use Rattle.mesh.proofs.Positions.{next-3, sideAt-law}
 use Rattle.mesh.specs.Paired.{twin, turn}
 use Rattle.mesh.proofs.Paired.{turn-in, turn-from, turn-to, next-within, to-in, third-is}
 use Rattle.mesh.specs.Verdict.{Clear}
 use Rattle.mesh.proofs.TurnRule.{byLabel}
+use Rattle.mesh.proofs.Written.{place-of, writes, written-here}
 use Rattle.mesh.proofs.Labels.{label-is-out, label-is-into}
 use Rattle.theorems.proofs.Marked.{label, all-labelled, is-out, is-into}
 use Rattle.theorems.proofs.Accepted.{surface, pairs, marked, edge-in}
 use Rattle.theorems.proofs.Fronts.{edge-here, edge-is-edge, place-half, place-hand, reference-at}
 use Rattle.theorems.proofs.Rebuilding.Lowest.{edge, hand, place, edge-back, by-hand, lowest}
 
--- a place is an edge with a hand
-pub place-of : (i : ℕ) → frontPlace (handAt i) (i / 2) ≡ i
-place-of i =
-    byBool (eqb (i % 2) 0) (λ t. rw t (let e = eqb-true (i % 2) 0 t in omega arith))
-    (λ t. rw t (let e : i % 2 ≢ 0 = eqb-false (i % 2) 0 t in omega arith))
-
 and-swap : (a b : Bool) → (a && b) ≡ (b && a)
 and-swap true true = refl
 and-swap true false = refl
 and-swap false true = refl
 and-swap false false = refl
-
--- whether a place writes, and how much
-abbrev pub writes : List ℕ → List ℕ → ℕ → Bool
-writes refs ws i = used (i / 2) && isLowest (handAt i) refs ws (i / 2)
-
-length-beside : (h : Hand) (refs ws : List ℕ) (j : ℕ) → length (triangleBeside h refs ws j) ≡ 3
-length-beside left refs ws j = refl
-length-beside right refs ws j = refl
-
-pub written-length : (refs ws : List ℕ) (i : ℕ) → length (writtenAt refs ws i) ≡ cond (writes refs ws i) 3 0
-unfolding writtenAt
-written-length refs ws i =
-    byBool (writes refs ws i) (λ t. rw t (length-beside (handAt i) refs ws (i / 2))) (λ t. rw t)
 
 -- the end of an edge that is not v
 other-end : (ws : List ℕ) (v w : ℕ) → v ≢ w → labelOf ws v w ≢ bare → otherEnd ws (edgeAt ws v w) v ≡ w
@@ -168,9 +150,9 @@ module _ (n : ℕ) (ts ws : List ℕ) (A : Clear n ts ws) where
   -- and what it writes are the corners from p on
   pub written-is : (p : ℕ) → p < length ts → isLow p ≡ true
       → writtenAt refs ws (placeOf p) ≡ from ts p ∷ to ts p ∷ from ts (next (next p)) ∷ []
-  unfolding writtenAt
   written-is p l e =
-      rw (writes-low p l ∙ e) (rw (place-half (handOf p) (edgeAlong p), place-hand (handOf p) (edgeAlong p)) (triangle-is p l))
+      written-here refs ws (placeOf p) (writes-low p l ∙ e) ∙
+      rw (place-half (handOf p) (edgeAlong p), place-hand (handOf p) (edgeAlong p)) (triangle-is p l)
 
   -- the position of a place
   unfoldable pub position : ℕ → ℕ

@@ -1,17 +1,17 @@
 -- What the rebuild says, taken apart: 0 is that the decoded mesh is accepted and has the references back; otherwise it is 18.
 use Prim.Native.Nat.{ℕ}
-use mathlib.Core.Path.{_≡_, refl, sym, _∙_}
+use mathlib.Core.Path.{_≡_, refl, sym, ap, _∙_}
 use mathlib.Core.List.{List}
-use mathlib.Core.Bool.{Bool, cond}
+use mathlib.Core.Bool.{Bool, cond, _&&_}
 use mathlib.Core.Logic.{_⊎_, inl, inr}
 use native.Mathlib.Omega.{arith}
 use lib.Dec.{eqb}
 use borrow.Author.Tests.{eqb-true, eq-eqb}
 use Rattle.mesh.specs.Verdict.{verdict}
 use Rattle.mesh.specs.Array.{referencesOf}
 use Rattle.mesh.specs.Rebuild.{rebuiltWood, rebuiltTriangles, trianglesFrom, sameList, rebuildSays}
 use Rattle.mesh.proofs.Tests.{byBool}
 use Rattle.mesh.proofs.SameList.{sameList-true, sameList-refl}
 
 pub triangles-is : (n : ℕ) (refs : List ℕ) → rebuiltTriangles n refs ≡ trianglesFrom n refs (rebuiltWood n refs)
 unfolding rebuiltTriangles
@@ -27,6 +27,12 @@ given-back n refs = sameList (referencesOf n (rebuiltTriangles n refs) (rebuiltW
 says-is : (n : ℕ) (refs : List ℕ) → rebuildSays n refs ≡ cond (accepted n refs) (cond (given-back n refs) 0 18) 18
 unfolding rebuildSays rebuiltTriangles
 says-is n refs = refl
+
+-- by one test: it is 0 exactly where both hold
+pub says-both : (n : ℕ) (refs : List ℕ) → eqb (rebuildSays n refs) 0 ≡ (accepted n refs && given-back n refs)
+says-both n refs =
+    ap (λ (k : ℕ). eqb k 0) (says-is n refs) ∙
+    byBool (accepted n refs) (λ a. byBool (given-back n refs) (λ b. rw (a, b)) (λ b. rw (a, b))) (λ a. rw a)
 
 pub says-0-or-18 : (n : ℕ) (refs : List ℕ) → (rebuildSays n refs ≡ 0) ⊎ (rebuildSays n refs ≡ 18)
 says-0-or-18 n refs =

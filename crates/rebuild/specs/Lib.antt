@@ -1,0 +1,3 @@
+-- What the rebuild's contracts cite beside crate mesh's definitions.
+pub mod Decode
+pub mod Rebuild
