@@ -19,7 +19,6 @@ use Rattle.tables.specs.declared.outcome.Outcome.{Outcome}
 use Rattle.tables.specs.declared.outcome.Outcome.the-variants.{Done, Refused}
 use Rattle.tables.proofs.OutcomeLaws.{refused-is, outcome-once}
 use Rattle.array.specs.Build.{lengthsFit, buildLengths, buildSays, Build}
-use Rattle.array.proofs.CheckLaws.{mesh-lengths}
 
 -- four lengths that fit
 pub record RightLengths (n triangles wood references service : ℕ) : Type 0 where
@@ -55,6 +54,11 @@ module _ (n t w r s : ℕ) where
         references-right = eqb-true r (referencesLength n) (u .0);
         service-right = eqb-true s (serviceLength n) (u .1);
       }
+
+-- with its two lengths right number 2 of a mesh does not apply
+mesh-lengths : (n : ℕ) (ts ws : List ℕ) → length ts ≡ trianglesLength n → length ws ≡ woodLength n → wrongLengths n ts ws ≡ false
+unfolding wrongLengths
+mesh-lengths n ts ws e f = rw (eq-eqb (length ts) (trianglesLength n) e, eq-eqb (length ws) (woodLength n) f)
 
 module _ (n : ℕ) (ts ws refs service : List ℕ) where
   pub says-1 : outOfRange n ≡ true → buildSays n ts ws refs service ≡ 1
