@@ -7,17 +7,11 @@ use mathlib.Core.Logic.{_≢_}
 use native.Mathlib.Omega.{arith}
 use lib.ListN.{length}
 use lib.Dec.{eqb}
-use borrow.Author.Tests.{eqb-true, eqb-false, eq-eqb, ne-eqb}
+use borrow.Author.Tests.{eqb-true, eqb-false}
 use Rattle.mesh.specs.Wood.{used}
 use Rattle.mesh.specs.Array.{Hand, left, right, frontPlace, handAt}
 use Rattle.mesh.specs.Rebuild.{isLowest, triangleBeside, writtenAt}
 use Rattle.mesh.proofs.Tests.{byBool}
-
-pub hand-even : (i : ℕ) → i % 2 ≡ 0 → handAt i ≡ left
-hand-even i e = rw (eq-eqb (i % 2) 0 e)
-
-pub hand-odd : (i : ℕ) → i % 2 ≢ 0 → handAt i ≡ right
-hand-odd i d = rw (ne-eqb (i % 2) 0 d)
 
 -- place i is the Front's place of edge i / 2 on its hand
 pub place-of : (i : ℕ) → frontPlace (handAt i) (i / 2) ≡ i

@@ -12,6 +12,7 @@ use Rattle.mesh.specs.Limits.{mostService}
 use Rattle.mesh.specs.Wood.{source, colour, edgeOf, isEdge}
 use Rattle.mesh.specs.Array.{Hand, left, right, handAt}
 use Rattle.mesh.specs.Reading.{torn, edgeAnswer, outerBack, bitOf, stepOf, besideSource, backByFront, innerBack, backAnswer}
+use Rattle.tables.proofs.HandLaws.{hand-left, hand-right}
 
 pub hand-bit : (hand byte : ℕ) → hand < 2 → bitAnd (byte / 2 ^ hand) 1 ≡ bitOf (handAt hand) byte
 hand-bit zero byte l = and-mask (byte / 1) 1 ∙ ap (λ (x : ℕ). x % 2) (div-one byte)
@@ -26,10 +27,10 @@ hand-step (suc (suc hand)) l = absurd (omega arith)
 -- the outer triangle
 module _ (hand j : ℕ) where
   pub outer-left : hand ≡ 0 → outerBack (handAt hand) j ≡ outerBack left j
-  outer-left e = ap (λ (h : ℕ). outerBack (handAt h) j) e
+  outer-left e = ap (λ (h : Hand). outerBack h j) (hand-left hand e)
 
   pub outer-right : hand < 2 → hand ≢ 0 → outerBack (handAt hand) j ≡ outerBack right j
-  outer-right l d = let e : hand ≡ 1 = omega arith in ap (λ (h : ℕ). outerBack (handAt h) j) e
+  outer-right l d = ap (λ (h : Hand). outerBack h j) (hand-right hand l d)
 
 -- by the Front f
 module _ (n : ℕ) (fronts : Hand → ℕ → ℕ) (hand j f : ℕ) (l : hand < 2) where

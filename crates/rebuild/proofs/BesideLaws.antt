@@ -15,18 +15,23 @@ use Rattle.mesh.specs.Rebuild.{otherEnd, cornerBeside, isLowest, triangleBeside
 use Rattle.mesh.proofs.Written.{place-of}
 use Rattle.tables.proofs.HandLaws.{hand-left, hand-right, hand-of-place}
 
+module _ (ws : List ℕ) (f v : ℕ) where
+  pub end-target : f / 3 ≡ v → (x : ℕ) → x ≡ at ws f → x ≡ otherEnd ws f v
+  unfolding otherEnd
+  end-target e x g = rw (eq-eqb (f / 3) v e) g
+
+  pub end-source : f / 3 ≢ v → f / 3 ≡ otherEnd ws f v
+  unfolding otherEnd
+  end-source d = rw (ne-eqb (f / 3) v d)
+
 module _ (refs ws : List ℕ) (i f : ℕ) (e : f ≡ at refs i) where
   front-is : at refs (frontPlace (handAt i) (i / 2)) ≡ f
   front-is = ap (at refs) (place-of i) ∙ sym e
 
   -- the corner is the Front's end that is not the target
-  pub corner-target : (v x : ℕ) → v ≡ at ws (i / 2) → f / 3 ≡ v → x ≡ at ws f → x ≡ cornerBeside (handAt i) refs ws (i / 2)
-  unfolding cornerBeside otherEnd
-  corner-target v x g h k = rw (front-is, ← g, eq-eqb (f / 3) v h) k
-
-  pub corner-source : (v : ℕ) → v ≡ at ws (i / 2) → f / 3 ≢ v → f / 3 ≡ cornerBeside (handAt i) refs ws (i / 2)
-  unfolding cornerBeside otherEnd
-  corner-source v g d = rw (front-is, ← g, ne-eqb (f / 3) v d)
+  pub corner-is : (v x : ℕ) → v ≡ at ws (i / 2) → x ≡ otherEnd ws f v → x ≡ cornerBeside (handAt i) refs ws (i / 2)
+  unfolding cornerBeside
+  corner-is v x g h = rw (front-is, ← g) h
 
   pub lowest-front : f ≤ i / 2 → false ≡ isLowest (handAt i) refs ws (i / 2)
   unfolding isLowest
