@@ -48,13 +48,12 @@ pub prefix-long : (k m x : ℕ) → k ≤ m → k ≡ length (take k (replicate 
 prefix-long k m x l = sym (length-take-le k (replicate m x) (omega (arith, length-replicate m x)))
 
 -- the wood's first nine places stored, then the part behind them filled
-module _ (l ys : List ℕ) (room : 9 ≤ length l) where
-  pub behind-anchors : length (take (length (sets l 0 anchorTargets) - 9) (drop 9 (sets l 0 anchorTargets))) ≡ length l - 9
+module _ (l m ys : List ℕ) (room : 9 ≤ length l) (stored : m ≡ sets l 0 anchorTargets) where
+  pub behind-anchors : length (take (length m - 9) (drop 9 m)) ≡ length l - 9
   behind-anchors =
-      ap length (rest 9 (sets l 0 anchorTargets)) ∙ length-drop 9 (sets l 0 anchorTargets) ∙
-      ap (λ (k : ℕ). k - 9) (length-sets l 0 anchorTargets)
+      ap length (rest 9 m) ∙ length-drop 9 m ∙ ap (λ (k : List ℕ). length k - 9) stored ∙ ap (λ (k : ℕ). k - 9) (length-sets l 0 anchorTargets)
 
-  pub anchors-kept : putMid 9 (length (sets l 0 anchorTargets) - 9) (sets l 0 anchorTargets) ys ≡ anchorTargets ++ ys
+  pub anchors-kept : putMid 9 (length m - 9) m ys ≡ anchorTargets ++ ys
   anchors-kept =
-      put-rest 9 (sets l 0 anchorTargets) ys (omega (arith, length-sets l 0 anchorTargets)) ∙
-      ap (λ (t : List ℕ). take 9 t ++ ys) (sets-eq anchorTargets l 0 room)
+      put-rest 9 m ys (omega (arith, ap length stored, length-sets l 0 anchorTargets)) ∙
+      ap (λ (t : List ℕ). take 9 t ++ ys) (stored ∙ sets-eq anchorTargets l 0 room)

@@ -4,6 +4,7 @@ ghost use mathlib.Core.Bool.{true};
 ghost use mathlib.Core.List.{_++_};
 ghost use Prim.Native.Nat.{_+_, _-_, _*_, _≤_};
 ghost use lib.ListN.{length};
+ghost use lib.Seq.{sets};
 ghost use Rattle.mesh.specs.Wood.{anchorTargets};
 ghost use Rattle.frames.specs.Digits.{numberAt};
 ghost use Rattle.frames.specs.Frames.{width};
@@ -32,9 +33,11 @@ use tables::limits::UNUSED;
 use tables::limits::out_of_range;
 use tables::outcome::Outcome;
 
-// The bytes of the longest text, that of a mesh of the most vertices, and of the longest answer, the text of its array.
-pub const TEXT_LIMIT: usize = HEAD_LENGTH
-    + FRAME_LENGTH * (MOST_CORNERS / 3 + MOST_VERTICES - FEWEST_VERTICES);
+// The frames of a mesh of the most vertices: its triangles and its inner vertices.
+const MOST_FRAMES: usize = MOST_CORNERS / 3 + MOST_VERTICES - FEWEST_VERTICES;
+
+// The bytes of the longest text, that mesh's, and of the longest answer, the text of its array.
+pub const TEXT_LIMIT: usize = HEAD_LENGTH + FRAME_LENGTH * MOST_FRAMES;
 
 pub const OUTPUT_LIMIT: usize = HEAD_LENGTH + EDGE_LENGTH * (MOST_EDGES - 6);
 
@@ -56,10 +59,10 @@ fn sizes(n: usize, triangles: usize, vertices: usize) -> u8
     0
 }
 
-// Wood indices 0 to 8, then the targets in the vertex frames.
-fn fill_wood(text: &[u8], from: usize, wood: &mut [u16])
-    requires { ⌜ (isText width (now text) ≡ true) × (9 ≤ length (now wood)) × (from + (length (now wood) - 9) ≤ 3 * frameCount width (now text)) ⌝ }
-    ensures { λ r. ⌜ now (wood .exit) ≡ anchorTargets ++ numbersFrom width (now (text .entry)) from (length (now (wood .entry)) - 9) ⌝ }
+// Wood indices 0 to 8, which are every mesh's.
+fn fill_anchors(wood: &mut [u16])
+    requires { ⌜ 9 ≤ length (now wood) ⌝ }
+    ensures { λ r. ⌜ now (wood .exit) ≡ sets (now (wood .entry)) 0 anchorTargets ⌝ }
 {
     wood[0] = UNUSED;
     wood[1] = UNUSED;
@@ -70,6 +73,14 @@ fn fill_wood(text: &[u8], from: usize, wood: &mut [u16])
     wood[6] = 0;
     wood[7] = 1;
     wood[8] = UNUSED;
+}
+
+// The wood: the anchors' edges, then the targets in the vertex frames.
+fn fill_wood(text: &[u8], from: usize, wood: &mut [u16])
+    requires { ⌜ (isText width (now text) ≡ true) × (9 ≤ length (now wood)) × (from + (length (now wood) - 9) ≤ 3 * frameCount width (now text)) ⌝ }
+    ensures { λ r. ⌜ now (wood .exit) ≡ anchorTargets ++ numbersFrom width (now (text .entry)) from (length (now (wood .entry)) - 9) ⌝ }
+{
+    fill_anchors(wood);
     fill_numbers(text, from, &mut wood[9..]);
 }
 

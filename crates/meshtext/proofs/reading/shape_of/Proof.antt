@@ -31,7 +31,7 @@ add-if2 : tie.Need-add-if2
 add-if2 c = search needs
 
 returns-2 : tie.Need-returns-2
-returns-2 c = sym (shape-ragged (c .before .before .before .before .args .text .now) (c .if2 .taken))
+returns-2 c = sym (shape-ragged (c .before .before .before .before .args .text .now) (λ e. omega (arith, c .if2 .taken)))
 
 triangle-frames-requires : tie.Need-triangle-frames-requires
 triangle-frames-requires c κs = search needs
@@ -54,7 +54,7 @@ returns-4 : tie.Need-returns-4
 returns-4 c =
     let d = c .before .before in
     sym (shape-right (d .before .before .before .before .before .args .text .now) (d .triangle-frames .result) (d .triangle-frames .ensures)
-    (head (d .before .before)) (d .before .if2 .left) (sym (c .before .vertex-frames .ensures) ∙ not-false _ (c .if3 .left)))
+    (head (d .before .before)) (omega (arith, d .before .if2 .left)) (sym (c .before .vertex-frames .ensures) ∙ not-false _ (c .if3 .left)))
 
 pub shape-of-spec : {M : Type 1} → statement M
 shape-of-spec =

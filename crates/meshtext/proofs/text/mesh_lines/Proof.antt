@@ -4,6 +4,7 @@ use Prim.Native.Nat.{ℕ}
 use mathlib.Core.List.{List}
 use Rattle.frames.specs.Put.{Wrote}
 use Rattle.meshtext.proofs.AnswerLaws.{answer-long, answer-wrong, answer-mesh, counted-is}
+use native.Mathlib.Omega.{arith}
 use borrow.Author.Needs.{needs}
 use Rattle.meshtext.proofs.text.mesh_lines.Statement.{statement}
 use Rattle.meshtext.proofs.text.mesh_lines.Tie as tie
@@ -18,7 +19,7 @@ returns : tie.Need-returns
 returns c =
     let d = c .before .before in
     let a = d .before .before .before .before .before .args in
-    subst (λ (f : List ℕ). Wrote f (a .out .now) (d .put-refusal .result) (d .put-refusal .last .0)) (sym (answer-long (a .text .now) (d .before .before .if1 .taken)))
+    subst (λ (f : List ℕ). Wrote f (a .out .now) (d .put-refusal .result) (d .put-refusal .last .0)) (sym (answer-long (a .text .now) (omega (arith, d .before .before .if1 .taken))))
     (d .put-refusal .ensures)
 
 shape-of-requires : tie.Need-shape-of-requires
@@ -48,7 +49,7 @@ returns-2 c =
     let e = d .before .before .before .before in
     let a = e .before .before .before .before .args in
     subst (λ (f : List ℕ). Wrote f (a .out .now) (d .put-refusal2 .result) (d .put-refusal2 .last .0))
-    (sym (answer-wrong (a .text .now) (e .before .if1 .left) (sym (e .shape-of .ensures) ∙ d .before .before .enum-told .given .1)))
+    (sym (answer-wrong (a .text .now) (omega (arith, e .before .if1 .left)) (sym (e .shape-of .ensures) ∙ d .before .before .enum-told .given .1)))
     (d .put-refusal2 .ensures)
 
 same-length-3 : tie.Need-same-length-3
@@ -61,7 +62,7 @@ returns-3 c =
     let a = e .before .before .before .before .args in
     let q = counted-is (a .text .now) _ _ (sym (e .shape-of .ensures) ∙ d .before .before .before .shape .given .1) in
     subst (λ (f : List ℕ). Wrote f (a .out .now) (d .answer .result) (d .answer .last .1 .1 .1 .0))
-    (sym (answer-mesh (a .text .now) (e .before .if1 .left) (q .text-is)))
+    (sym (answer-mesh (a .text .now) (omega (arith, e .before .if1 .left)) (q .text-is)))
     (d .answer .ensures)
 
 pub mesh-lines-spec : {M : Type 1} → statement M

@@ -29,7 +29,7 @@ sub-all c = let r = in-range (c .before .before .args .n) (inside c) in omega ar
 returns-2 : tie.Need-returns-2
 returns-2 c =
     let a = c .before .before .before .args in
-    sym (size-triangles (a .n) (a .triangles) (a .vertices) (inside (c .before)) (c .if2 .taken))
+    sym (size-triangles (a .n) (a .triangles) (a .vertices) (inside (c .before)) (λ e. c .if2 .taken (omega arith)))
 
 sub-inner : tie.Need-sub-inner
 sub-inner c = let r = in-range (c .before .before .before .args .n) (inside (c .before)) in omega arith
@@ -37,12 +37,12 @@ sub-inner c = let r = in-range (c .before .before .before .args .n) (inside (c .
 returns-3 : tie.Need-returns-3
 returns-3 c =
     let a = c .before .before .before .before .args in
-    sym (size-vertices (a .n) (a .triangles) (a .vertices) (inside (c .before .before)) (c .if3 .taken))
+    sym (size-vertices (a .n) (a .triangles) (a .vertices) (inside (c .before .before)) (λ e. c .if3 .taken (omega arith)))
 
 returns-4 : tie.Need-returns-4
 returns-4 c =
     let a = c .before .before .before .before .args in
-    sym (size-right (a .n) (a .triangles) (a .vertices) (inside (c .before .before)) (c .before .if2 .left) (c .if3 .left))
+    sym (size-right (a .n) (a .triangles) (a .vertices) (inside (c .before .before)) (omega (arith, c .before .if2 .left)) (omega (arith, c .if3 .left)))
 
 pub sizes-spec : {M : Type 1} → statement M
 sizes-spec =

@@ -61,7 +61,7 @@ put-edge-at-requires c κs =
     let a = s .args in (
       omega (
         arith,
-        line-room (a .references .now) (a .service .now) (a .n) (s .pre .0 .enough) (d .loop .j) (c .before .loop-test .taken),
+        line-room (a .references .now) (a .service .now) (a .n) (s .pre .0 .enough) (d .loop .j) (omega (arith, c .before .loop-test .taken)),
         d .loop .inv .1,
         d .loop .inv .2 .after,
         h .put-head .kept .0,
