@@ -1,7 +1,7 @@
 -- Bytes written into the part of a buffer from a place to the end, said of the whole buffer.
 use Prim.Native.Nat.{ℕ, _+_, _-_, _≤_}
 use native.Mathlib.Omega.{arith}
-use mathlib.Core.Path.{_≡_, sym, _∙_, ap}
+use mathlib.Core.Path.{_≡_, refl, sym, _∙_, ap}
 use mathlib.Core.List.{List, _++_, append-nil, append-assoc}
 use lib.ListN.{length, take, drop, length-drop}
 use lib.Seq.{take-all, drop-length, drop-drop, sets-eq}
@@ -11,11 +11,14 @@ use Rattle.frames.specs.declared.part.Put.{Put}
 use Rattle.frames.specs.declared.part.Put.the-variants.{Done, Refused}
 use Rattle.frames.specs.Put.{Wrote, Stored}
 use Rattle.frames.proofs.DigitLaws.{length-digits}
-use Rattle.frames.proofs.PutLaws.{same-count, never-refused, wrote-over}
+use Rattle.frames.proofs.PutLaws.{same-count, never-refused, wrote-over, wrote-frame, wrote-stored}
 
 -- a part to the end is the rest
 pub rest : (at : ℕ) (l : List ℕ) → take (length l - at) (drop at l) ≡ drop at l
 rest at l = take-all (length l - at) (drop at l) (omega (arith, length-drop at l))
+
+pub length-rest : (at : ℕ) (l : List ℕ) → length (take (length l - at) (drop at l)) ≡ length l - at
+length-rest at l = ap length (rest at l) ∙ length-drop at l
 
 -- a part to the end, put back
 pub put-rest : (at : ℕ) (l ys : List ℕ) → at ≤ length l → putMid at (length l - at) l ys ≡ take at l ++ ys
@@ -28,7 +31,7 @@ module _ (at : ℕ) (frame l : List ℕ) (r : Put) (ys : List ℕ) (room : at + 
     (w : Wrote frame (take (length l - at) (drop at l)) r ys) where
   written : (r ≡ Done (length frame)) × (ys ≡ frame ++ drop (length frame) (take (length l - at) (drop at l)))
   written =
-      wrote-over (length frame) frame (take (length l - at) (drop at l)) r ys w (rw (rest at l) (omega (arith, length-drop at l)))
+      wrote-over (length frame) frame (take (length l - at) (drop at l)) r ys w (omega (arith, length-rest at l))
 
   pub part-stored : (m : ℕ) → length frame ≤ m → Stored m frame at l (at + length frame) (putMid at (length l - at) l ys)
   part-stored m few = record {
@@ -53,3 +56,18 @@ part-digits at k x l r ys room w =
     let e = length-digits k x in
     let s = part-stored at (digits k x) l r ys (omega arith) w k (omega arith) in
     record { few = s .few; after = omega (arith, s .after); stored = s .stored }
+
+-- a run of bytes stored from the front of a part with room for the most of them
+pub part-placed : (m at k : ℕ) (bytes l ys : List ℕ) → at + m ≤ length l → Stored m bytes 0 (take (length l - at) (drop at l)) k ys
+    → Stored m bytes at l (at + k) (putMid at (length l - at) l ys)
+part-placed m at k bytes l ys room s =
+    let e = length-rest at l in
+    part-done at bytes l (Done k) ys (omega (arith, s .few))
+    (wrote-frame bytes (take (length l - at) (drop at l)) k ys (omega (arith, s .after)) (omega (arith, s .few, s .after)) (s .stored)) m k (s .few) refl
+
+-- digits from the front of a part
+pub front-digits : (k x : ℕ) (l : List ℕ) (r : Put) (ys : List ℕ) → k ≤ length l → Wrote (digits k x) l r ys → Stored k (digits k x) 0 l k ys
+front-digits k x l r ys room w =
+    let e = length-digits k x in
+    let s = wrote-stored (digits k x) l r ys w (omega arith) in
+    record { few = omega arith; after = omega arith; stored = s .stored }

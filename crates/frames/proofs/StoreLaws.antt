@@ -1,13 +1,13 @@
 -- Stores one after the other: a run of stores can be made in pieces, or from its last to its first. Pieces stored from a place on, each
 -- where the last one ended, are the whole stored there.
-use Prim.Native.Nat.{ℕ, suc, _+_, _*_, _≤_}
-use native.Mathlib.Nat.{add-zero, add-suc, suc-add, zero-mul, suc-mul}
+use Prim.Native.Nat.{ℕ, suc, _+_, _*_, _≤_, _<_}
+use native.Mathlib.Nat.{add-zero, add-suc, suc-add, zero-mul, suc-mul, mul-le-mul-right}
 use native.Mathlib.Numerals.{add-one}
 use native.Mathlib.Omega.{arith}
 use mathlib.Core.Path.{_≡_, refl, sym, _∙_, ap, ap₂, subst}
 use mathlib.Core.List.{List, [], _∷_, _++_}
 use lib.ListN.{length, set, length-append}
-use lib.Seq.{set-comm, sets}
+use lib.Seq.{set-comm, sets, length-sets}
 use Rattle.mesh.specs.Search.{gather}
 use Rattle.mesh.proofs.Lists.{gather-none, gather-more}
 use Rattle.frames.specs.Put.{Stored}
@@ -39,6 +39,9 @@ stored-as m xs ys at next p q e s = subst (λ (l : List ℕ). Stored m l at p ne
 pub stored-wider : (m k : ℕ) (xs : List ℕ) (at next : ℕ) (p q : List ℕ) → m ≤ k → Stored m xs at p next q → Stored k xs at p next q
 stored-wider m k xs at next p q l s = record { few = omega (arith, s .few); after = s .after; stored = s .stored }
 
+pub stored-length : (m : ℕ) (xs : List ℕ) (at next : ℕ) (p q : List ℕ) → Stored m xs at p next q → length q ≡ length p
+stored-length m xs at next p q s = ap length (s .stored) ∙ length-sets p at xs
+
 -- a piece behind another
 pub stored-more : (m k : ℕ) (xs ys : List ℕ) (at next end : ℕ) (p q r : List ℕ) → Stored m xs at p next q → Stored k ys next q end r
     → Stored (m + k) (xs ++ ys) at p end r
@@ -62,3 +65,7 @@ module _ (w : ℕ) (f : ℕ → List ℕ) (start : ℕ) (out : List ℕ) where
       subst (λ (m : ℕ). Stored m (gather f (j + 1)) start out next q) e
       (stored-as (j * w + w) (gather f j ++ f j) (gather f (j + 1)) start next out q (sym (gather-more f j))
       (stored-more (j * w) w (gather f j) (f j) start at next out p q s t))
+
+-- the next of so many lines has room where all have
+pub lines-fit : (w j count : ℕ) → j < count → j * w + w ≤ count * w
+lines-fit w j count l = omega (arith, mul-le-mul-right w l, suc-mul j w)

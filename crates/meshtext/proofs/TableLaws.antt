@@ -4,8 +4,8 @@ use Prim.Native.Nat.{ℕ, _-_, _*_, _≤_}
 use native.Mathlib.Omega.{arith}
 use mathlib.Core.Path.{_≡_, sym, _∙_, ap, ap₂}
 use mathlib.Core.List.{List, _++_}
-use lib.ListN.{length, take, drop, replicate, length-drop, length-replicate}
-use lib.Seq.{length-take-le, sets, sets-eq, length-sets}
+use lib.ListN.{length, take, drop, length-drop}
+use lib.Seq.{sets, sets-eq, length-sets}
 use borrow.Rule.Slice.PartMut.{putMid}
 use Rattle.mesh.specs.Limits.{fewestVertices, trianglesLength, woodLength}
 use Rattle.mesh.specs.Wood.{anchorTargets}
@@ -42,10 +42,6 @@ module _ (text : List ℕ) (n : ℕ) (counted : Counted text (2 * n - 4) (n - 3)
       let f : ℕ = 3 * (frameCount width text - triangleCount width text) in
       let g : m - 9 ≡ f = omega (arith, counted .vertices-are) in
       ap₂ (numbersFrom width text) (sym triangle-numbers) g
-
--- a part from the front of a new table
-pub prefix-long : (k m x : ℕ) → k ≤ m → k ≡ length (take k (replicate m x))
-prefix-long k m x l = sym (length-take-le k (replicate m x) (omega (arith, length-replicate m x)))
 
 -- the wood's first nine places stored, then the part behind them filled
 module _ (l m ys : List ℕ) (room : 9 ≤ length l) (stored : m ≡ sets l 0 anchorTargets) where

@@ -120,3 +120,8 @@ pub rebuild-once : (n : ℕ) (refs ws ts : List ℕ) (r s : Outcome) (ws′ ws�
     → Rebuild n refs ws ts r ws′ ts′ → Rebuild n refs ws ts s ws″ ts″ → (r ≡ s) × (ws′ ≡ ws″) × (ts′ ≡ ts″)
 rebuild-once n refs ws ts r s ws′ ws″ ts′ ts″ a b =
     (a .answer ∙ sym (b .answer), a .wood ∙ sym (b .wood), a .triangles ∙ sym (b .triangles))
+
+-- where the sizes are right, the number is the definition's
+pub rebuild-says : (n : ℕ) (refs ws ts : List ℕ) → RightSizes n refs ws ts → rebuildNumber n refs ws ts ≡ rebuildSays n refs
+unfolding firstOf
+rebuild-says n refs ws ts R = past-sizes n refs ws ts R ∙ ⊎-elim (λ e. rw e) (λ e. rw e) (says-0-or-18 n refs)

@@ -3,9 +3,10 @@ use Prim.Native.Nat.{ℕ, _+_, _≤_, _<_}
 use mathlib.Core.Path.{_≡_, refl, sym, ap, ap₂, _∙_}
 use mathlib.Core.List.{List}
 use native.Mathlib.Omega.{arith}
-use lib.ListN.{length, set, length-set}
+use lib.ListN.{length, getD, set, take, length-set}
+use lib.Seq.{length-take-le, getD-take}
 use Rattle.mesh.specs.Search.{tabulate, painted}
-use Rattle.mesh.proofs.Lists.{painted-none, painted-more, painted-all}
+use Rattle.mesh.proofs.Lists.{tabulate-is, painted-none, painted-more, painted-below, painted-all}
 
 -- after i turns: the buffer was `old` and is `new`
 pub record Painting (f : ℕ → ℕ) (old new : List ℕ) (i : ℕ) : Type 0 where
@@ -29,3 +30,9 @@ module _ (f : ℕ → ℕ) (old : List ℕ) where
   paint-ends {new} {i} P l m e =
       let s : i ≡ m = omega (arith, P .kept, P .within) in
       P .holds ∙ ap (λ (k : ℕ). painted f k old) s ∙ painted-all f m old e
+
+  -- the front of a longer buffer
+  pub paint-front : {new : List ℕ} {i : ℕ} → Painting f old new i → take i new ≡ tabulate f i
+  paint-front {new} {i} P =
+      tabulate-is f i (take i new) 0 (length-take-le i new (omega (arith, P .kept, P .within)))
+      (λ k g. getD-take i new k 0 g ∙ ap (λ (b : List ℕ). getD b k 0) (P .holds) ∙ painted-below f i k old 0 (P .within) g)

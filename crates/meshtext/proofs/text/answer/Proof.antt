@@ -4,13 +4,14 @@ use Prim.Native.Nat.{ℕ, _-_, _*_}
 use mathlib.Core.List.{List, _++_}
 use Rattle.mesh.specs.Limits.{mostVertices, unusedMark, trianglesLength, woodLength, referencesLength, serviceLength, InRange}
 use Rattle.mesh.specs.Wood.{anchorTargets}
+use Rattle.tables.proofs.TableLaws.{prefix-long}
 use Rattle.frames.specs.Frames.{width}
 use Rattle.meshtext.specs.Reading.{trianglesIn, targetsIn}
 use Rattle.meshtext.specs.Answer.{meshAnswer}
 use Rattle.frames.specs.Put.{Wrote}
 use Rattle.meshtext.proofs.ReadingLaws.{n-read}
 use Rattle.meshtext.proofs.SizeLaws.{right-sizes, size-is-verdict}
-use Rattle.meshtext.proofs.TableLaws.{prefix-long, length-triangles, length-targets}
+use Rattle.meshtext.proofs.TableLaws.{length-triangles, length-targets}
 use Rattle.meshtext.proofs.AnswerLaws.{answer-refused}
 use native.Mathlib.Omega.{arith}
 use borrow.Author.Needs.{needs}
