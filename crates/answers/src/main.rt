@@ -1,4 +1,6 @@
 // answers: reads an array's text from standard input, built or torn, and writes for each index and each vertex what each question answers.
+#![tactic(auto)]
+
 use arraytext::{ANSWERS_LIMIT, ARRAY_LIMIT};
 use frames::Put;
 use libc::{STDIN_FILENO, STDOUT_FILENO};

@@ -1,4 +1,6 @@
 // An array's text read, and what the programs `answers` and `rebuildlines` write for it.
+#![tactic(auto)]
+
 mod answering;
 mod field;
 mod reading;

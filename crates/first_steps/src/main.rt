@@ -1,4 +1,6 @@
 // first_steps: the garment array in one page. Builds the array of the four-vertex piece, asks about one edge, and rebuilds the mesh.
+#![tactic(auto)]
+
 use garment::{EdgeAnswer, Outcome, TargetAnswer, UNUSED};
 use libc::STDOUT_FILENO;
 

@@ -1,4 +1,6 @@
 // Digits and frames, each read and written in its part of a buffer.
+#![tactic(auto)]
+
 pub mod digit;
 pub mod frame;
 pub mod line;

@@ -1,4 +1,6 @@
 // The garment array: what callers name, in one place.
+#![tactic(auto)]
+
 pub use array::build;
 pub use questions::answer::{EdgeAnswer, PointAnswer, TargetAnswer, VertexAnswer};
 pub use questions::backs::{left_back, right_back};

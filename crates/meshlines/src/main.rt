@@ -1,4 +1,6 @@
 // meshlines: reads a mesh as house text from standard input and writes its array, or the number of its refusal, to standard output.
+#![tactic(auto)]
+
 use frames::Put;
 use libc::{STDIN_FILENO, STDOUT_FILENO};
 use meshtext::text::{OUTPUT_LIMIT, TEXT_LIMIT};

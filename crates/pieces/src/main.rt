@@ -1,6 +1,8 @@
 // pieces: runs the specification's pieces (SPECIFICATION, section 13), those that are proved as well, and prints what the engine
 // finds, one line for each. Each piece has a function of its own, and the work is done over lent slices: such functions are
 // checked fast.
+#![tactic(auto)]
+
 mod piece;
 mod point;
 mod rebuilds;

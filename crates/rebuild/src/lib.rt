@@ -1,4 +1,6 @@
 // A rebuild: the mesh whose references these are, from them alone.
+#![tactic(auto)]
+
 mod beside;
 pub mod rebuilder;
 mod targets;

@@ -1,4 +1,6 @@
 // rebuildlines: reads an array's text from standard input, built or torn, and writes the mesh that its references tell of as house text.
+#![tactic(auto)]
+
 use arraytext::{ARRAY_LIMIT, MESH_LIMIT};
 use frames::Put;
 use libc::{STDIN_FILENO, STDOUT_FILENO};

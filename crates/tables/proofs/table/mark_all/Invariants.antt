@@ -1,0 +1,13 @@
+-- `mark_all` fills the table from its front.
+use Prim.Native.Nat.{◌-◌, ◌≤◌}
+use mathlib.Core.Path.{◌≡◌}
+use mathlib.Core.List.{◌++◌}
+use lib.ListN.{length, drop, replicate}
+use Rattle.mesh.specs.Limits.{unused_mark}
+use Rattle.tables.proofs.table.mark_all.Given as goal
+
+abbrev pub invariant-loop-i : goal.invariant-loop-i
+invariant-loop-i l = (l.i ≤ length l.initial.table) × (length l.table ≡ length l.initial.table) × (l.table ≡ replicate l.i unused_mark ++ drop l.i l.initial.table)
+
+abbrev pub decreases-loop-i : goal.decreases-loop-i
+decreases-loop-i l = length l.initial.table - l.i
