@@ -32,7 +32,7 @@ fn corner_at(ts: &[u16], twins: &[u16], p: u16, hand: usize) -> u16
     }
 }
 
-#[derive(Drop)]
+#[derive(Clone, Copy)]
 enum End {
     Source,
     Target,

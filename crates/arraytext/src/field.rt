@@ -7,7 +7,7 @@ ghost use Rattle.arraytext.specs.AnswerLines.{value_length, Spells};
 use frames::frame::WIDTH;
 use questions::answer::{EdgeAnswer, TargetAnswer, VertexAnswer};
 
-#[derive(Drop)]
+#[derive(Clone, Copy)]
 pub(crate) struct Field {
     pub count: usize,
     pub value: usize,

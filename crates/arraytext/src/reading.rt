@@ -23,7 +23,7 @@ const HIGHEST: u16 = UNUSED >> (16 - 4 * WIDTH);
 const EDGE_DIGITS: usize = 3 * WIDTH + 1;
 
 // The number that refuses a text, or the n of an array's text.
-#[derive(Drop)]
+#[derive(Clone, Copy)]
 pub(crate) enum ArrayShape {
     Refused(u8),
     Array(usize),

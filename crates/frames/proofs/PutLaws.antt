@@ -1,6 +1,6 @@
 -- What a writer answers and leaves: with room its bytes over the front of its part, without room 2 and nothing. Its record allows one
 -- end alone, and what it answers lies within its part.
-use Prim.Native.Nat.{ℕ, ◌+◌, ◌≤◌, ◌<◌}
+use Prim.Native.Nat.{ℕ, ◌≤◌, ◌<◌}
 use native.Mathlib.Nat.{zero-add}
 use native.Mathlib.Omega.{arith}
 use mathlib.Core.Path.{◌≡◌, sym, ◌∙◌, ap}

@@ -10,7 +10,7 @@ use frames::frame::{FRAME_LENGTH, HEAD_CODE, HEAD_LENGTH, TRIANGLE_CODE, VERTEX_
 use frames::{is_line, number_at};
 
 // A text that is none, or how many triangle and vertex frames follow its head.
-#[derive(Drop)]
+#[derive(Clone, Copy)]
 pub(crate) enum Shape {
     Wrong,
     Frames { triangles: usize, vertices: usize },

@@ -7,7 +7,7 @@ use crate::table::{UNUSED, fill};
 use garment::{Outcome, build};
 
 // What is asked of a piece's array: Four is P1 to P4.
-#[derive(Drop)]
+#[derive(Clone, Copy)]
 pub(crate) enum Ask {
     Nothing,
     Target(usize),

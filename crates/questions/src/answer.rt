@@ -6,28 +6,28 @@ ghost use Rattle.questions.specs.Answers.{edge_listed};
 use tables::edge::is_edge;
 
 // LeftFront, RightFront, LeftBack, RightBack and Edge.
-#[derive(Drop)]
+#[derive(Clone, Copy)]
 pub enum EdgeAnswer {
     Edge(u16),
     Refused(u8),
 }
 
 // Source.
-#[derive(Drop)]
+#[derive(Clone, Copy)]
 pub enum VertexAnswer {
     Vertex(u16),
     Refused(u8),
 }
 
 // Target: the vertex, and how many LeftFronts were read to find it.
-#[derive(Drop)]
+#[derive(Clone, Copy)]
 pub enum TargetAnswer {
     Reached { vertex: u16, reads: u16 },
     Refused(u8),
 }
 
 // Point: the three coordinates, bit for bit.
-#[derive(Drop)]
+#[derive(Clone, Copy)]
 pub enum PointAnswer {
     Coordinates { x: f32, y: f32, z: f32 },
     Refused(u8),

@@ -11,7 +11,7 @@ use crate::order::edge_refusal;
 use tables::edge::is_edge;
 
 // What a walk does at an edge.
-#[derive(Drop)]
+#[derive(Clone, Copy)]
 pub(crate) enum Stop {
     AtVertex(u16),
     GoOn,

@@ -2,7 +2,7 @@
 ghost use Rattle.std.specs.Prelude.{◌≡◌, ◌+◌, ◌%◌, get_or, leb, eqb};
 ghost use Rattle.mesh.specs.Search.{some};
 
-#[derive(Drop)]
+#[derive(Clone, Copy)]
 pub struct Triangle {
     pub corners: [u16; 3],
 }

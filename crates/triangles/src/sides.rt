@@ -10,7 +10,7 @@ use crate::side::find_side;
 use crate::triangle::triangle_at;
 
 // The two ends of a side.
-#[derive(Drop)]
+#[derive(Clone, Copy)]
 struct Ends {
     from: u16,
     to: u16,
