@@ -19,17 +19,17 @@ pub returns-in-AtVertex : goal.returns-in-AtVertex
 returns-in-AtVertex c =
     let a = c.args in
     sym (c.loop-vertex.invariant.2 ∙ walk_at_vertex a.n (fronts_in a.references.now) (a.j % 3) c.loop-vertex.e c.loop-vertex.reads c.loop-vertex.more _
-    (sym c.stop_at-stop.ensures ∙ ap stop_meant c.stop-1.given.1))
+    (sym c.stop_at-stop.ensures ∙ ap stop_meant c.in-AtVertex.is))
 
 pub returns-in-Torn : goal.returns-in-Torn
 returns-in-Torn c =
     let a = c.args in
     sym (c.loop-vertex.invariant.2 ∙ walk_torn a.n (fronts_in a.references.now) (a.j % 3) c.loop-vertex.e c.loop-vertex.reads c.loop-vertex.more
-    (sym c.stop_at-stop.ensures ∙ ap stop_meant c.enum_told-1.given.1))
+    (sym c.stop_at-stop.ensures ∙ ap stop_meant c.in-Torn.is))
 
 -- past the two ways out the walk goes on
 goes : (c : In-GoOn) → stop_at (c.args.j % 3) c.loop-vertex.e ≡ go_on
-goes c = sym c.stop_at-stop.ensures ∙ ap stop_meant c.enum_told-in-GoOn-1.given.1
+goes c = sym c.stop_at-stop.ensures ∙ ap stop_meant c.in-GoOn.is
 
 pub returns-then-more-eq0 : goal.returns-then-more-eq0
 returns-then-more-eq0 c =
