@@ -5,7 +5,7 @@ use native.Mathlib.Omega.{arith}
 use mathlib.Core.Path.{◌≡◌, sym, ◌∙◌, ap, subst}
 use mathlib.Core.List.{List}
 use mathlib.Core.Bool.{true}
-use Rattle.mesh.specs.Limits.{at, unused_mark}
+use Rattle.mesh.specs.Limits.{unused_mark}
 use Rattle.mesh.proofs.Tests.{by_bool}
 use Rattle.mesh.proofs.Lists.{length_tabulate, get_d_tabulate}
 use Rattle.frames.specs.Digits.{number_at}

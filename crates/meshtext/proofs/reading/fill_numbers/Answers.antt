@@ -1,6 +1,6 @@
 -- `fill_numbers` paints the table with the numbers, each where its frame has its digits.
 use mathlib.Core.Path.{◌≡◌, refl, sym, ap, ap₂, ◌∙◌}
-use Prim.Native.Nat.{ℕ, ◌+◌, ◌-◌}
+use Prim.Native.Nat.{ℕ, ◌+◌}
 use lib.ListN.{length, set, length-set}
 use Rattle.mesh.specs.Search.{painted}
 use Rattle.mesh.proofs.Lists.{painted_none, painted_more, painted_all}

@@ -1,10 +1,8 @@
 -- `triangle_frames` returns at the first frame that is no triangle frame.
 use mathlib.Core.Path.{sym, ap, ◌∙◌}
-use Prim.Native.Nat.{◌-◌}
 use mathlib.Core.Bool.{not}
 use borrow.Author.Count.{below_more}
 use Rattle.mesh.proofs.Search.{first_at, first_none}
-use Rattle.meshtext.specs.Reading.{is_frame}
 use native.Mathlib.Omega.{arith}
 use Rattle.meshtext.proofs.reading.triangle_frames.Goals as goal
 

@@ -1,7 +1,5 @@
 -- `vertex_frames` passes vertex frames, and stops at the first frame that is none.
 use mathlib.Core.Path.{sym, ◌∙◌}
-use Prim.Native.Nat.{◌-◌}
-use mathlib.Core.Bool.{true}
 use lib.Dec.{ltb}
 use borrow.Author.Count.{below_more}
 use borrow.Author.Tests.{not-true, not-false, lt-ltb, le-ltb}

@@ -32,13 +32,13 @@ returns-then-number-ne0 c =
     c.put_refusal.ensures
 
 -- after the test of the sizes
-right : (e : tie.Else1) →
-    let n = e.before.before.number_at.result in
-    let a = e.before.before.before.before.before.args in
+right : (e : Else-number-ne0) →
+    let n = e.number_at-n.result in
+    let a = e.args in
     InRange n × (a.triangles ≡ 2 * n - 4) × (a.vertices ≡ n - 3)
 right e =
-    let a = e.before.before.before.before.before.args in
-    right_sizes e.before.before.number_at.result a.triangles a.vertices (sym e.before.sizes.ensures ∙ e.if1.false)
+    let a = e.args in
+    right_sizes e.number_at-n.result a.triangles a.vertices (sym e.sizes-number.ensures ∙ e.if-number-ne0.false)
 
 pub overflow_sub-positions : goal.overflow_sub-positions
 overflow_sub-positions c = let r = right c in omega (arith, r.0)

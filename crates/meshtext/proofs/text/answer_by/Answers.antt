@@ -11,24 +11,23 @@ use Rattle.frames.specs.Put.{Wrote}
 use Rattle.meshtext.proofs.TableLaws.{all_numbers, triangles_filled, targets_filled}
 use Rattle.meshtext.proofs.AnswerLaws.{answer_built, answer_not_built}
 use native.Mathlib.Omega.{arith}
-use Rattle.meshtext.proofs.text.answer_by.Goals.{After-build-arg-1, After-build-outcome}
+use Rattle.meshtext.proofs.text.answer_by.Goals.{After-build-outcome}
 use Rattle.meshtext.proofs.text.answer_by.Goals as goal
 
 -- what was built from the filled tables was built from the text's
-built : (b : tie.After-build) →
-    let a = b.before.before.before.before.before.before.before.before.before.before.before.before.before.before.before.before.before.before.before.args in
+built : (b : After-build-outcome) →
+    let a = b.before.args in
     let t = a.text.now in
-    Build a.n (triangles_in width t) (anchor_targets ++ targets_in width t) a.references.now a.service.now b.build.result
-    b.build.new.1.1.1.0 b.build.new.1.1.1.1.0
+    Build a.n (triangles_in width t) (anchor_targets ++ targets_in width t) a.references.now a.service.now b.build-outcome.result
+    b.build-outcome.new.references b.build-outcome.new.service
 built b =
-    let s = b.before.before.before.before.before.before.before.before.before.before.before.before.before.before.before.before.before.before.before in
-    let a = s.args in
-    let q = s.requires in
+    let a = b.args in
+    let q = b.requires in
     let t = a.text.now in
-    let corners = b.before.before.before.before.before.before.before.before.before.before.before.fill-numbers.ensures ∙ triangles_filled t a.n q.counted q.range.enough (length a.corners.now) q.corners_long in
-    let wood = b.before.before.before.before.before.before.before.fill-wood.ensures ∙ ap (λ (l : List ℕ). anchor_targets ++ l) (targets_filled t a.n q.counted q.range.enough (length a.wood.now) q.wood_long) in
-    let by : List ℕ → List ℕ → Type 0 = λ ts ws. Build a.n ts ws a.references.now a.service.now b.build.result b.build.new.1.1.1.0 b.build.new.1.1.1.1.0 in
-    subst (λ (ts : List ℕ). by ts (anchor_targets ++ targets_in width t)) corners (subst (by b.before.before.before.before.before.before.before.before.before.before.before.fill-numbers.new.1.1.0) wood b.build.ensures)
+    let corners = b.fill_numbers.ensures ∙ triangles_filled t a.n q.counted q.range.enough (length a.corners.now) q.corners_long in
+    let wood = b.fill_wood.ensures ∙ ap (λ (l : List ℕ). anchor_targets ++ l) (targets_filled t a.n q.counted q.range.enough (length a.wood.now) q.wood_long) in
+    let by : List ℕ → List ℕ → Type 0 = λ ts ws. Build a.n ts ws a.references.now a.service.now b.build-outcome.result b.build-outcome.new.references b.build-outcome.new.service in
+    subst (λ (ts : List ℕ). by ts (anchor_targets ++ targets_in width t)) corners (subst (by b.fill_numbers.new.table) wood b.build-outcome.ensures)
 
 pub fill_numbers-requires : goal.fill_numbers-requires
 fill_numbers-requires c =
@@ -47,20 +46,18 @@ fill_wood-requires c =
 
 pub returns-in-Done : goal.returns-in-Done
 returns-in-Done c =
-    let s = c.before.before.before in
-    let a = s.args in
-    let q = s.requires in
+    let a = c.args in
+    let q = c.requires in
     let t = a.text.now in
     let e =
     answer_built a.n (triangles_in width t) (anchor_targets ++ targets_in width t) a.references.now a.service.now c.build-outcome.result
-    c.build-outcome.new.1.1.1.0 c.build-outcome.new.1.1.1.1.0 (built (goal.at.returns-in-Done c).After-build-arg-1) c.enum_told-1.given.1 in
+    c.build-outcome.new.references c.build-outcome.new.service (built (goal.at.returns-in-Done c).After-build-outcome) c.in-Done.is in
     subst (λ (f : List ℕ). Wrote f a.out.now c.put_array.result c.put_array.new.out) e c.put_array.ensures
 
 pub returns-in-Refused : goal.returns-in-Refused
 returns-in-Refused c =
-    let s = c.before in
-    let a = s.args in
-    let q = s.requires in
+    let a = c.args in
+    let q = c.requires in
     let t = a.text.now in
     let e =
     answer_not_built a.n (triangles_in width t) (anchor_targets ++ targets_in width t) a.references.now a.service.now c.build-outcome.result

@@ -1,6 +1,6 @@
 -- `put_array` writes the head, then each edge's line behind the last.
 use mathlib.Core.Path.{◌≡◌, refl, subst, ◌∙◌}
-use Prim.Native.Nat.{ℕ, ◌-◌, ◌*◌}
+use Prim.Native.Nat.{ℕ, ◌*◌}
 use Rattle.mesh.specs.Search.{gather}
 use Rattle.frames.specs.Frames.{width, edge_line, array_text}
 use Rattle.frames.specs.Lines.{head_length, edge_length}

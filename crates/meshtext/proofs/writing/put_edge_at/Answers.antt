@@ -17,24 +17,23 @@ use Rattle.meshtext.proofs.writing.put_edge_at.Goals.{After-put_edge-put}
 use Rattle.meshtext.proofs.writing.put_edge_at.Goals as goal
 
 -- after the writer: its frame is the edge's line
-framed : (d : tie.After-put-edge) →
-    let a = d.before.before.before.before.before.before.before.before.before.before.args in
-    Wrote (edge_line width a.references.now a.service.now a.j) (take (length a.out.now - a.at) (drop a.at a.out.now)) d.put-edge.result d.put-edge.new.0
+framed : (d : After-put_edge-put) →
+    let a = d.args in
+    Wrote (edge_line width a.references.now a.service.now a.j) (take (length a.out.now - a.at) (drop a.at a.out.now)) d.put_edge-put.result d.put_edge-put.new.part
 framed d =
-    let s = d.before.before.before.before.before.before.before.before.before.before in
-    let a = s.args in
-    let u = sym d.before.before.before.before.before.before.used.ensures ∙ not-false _ d.before.before.before.before.before.if1.false in
-    let e = line_used a.references.now a.service.now a.j u s.requires.1 s.requires.2 in
-    subst (λ (f : List ℕ). Wrote f (take (length a.out.now - a.at) (drop a.at a.out.now)) d.put-edge.result d.put-edge.new.0) e d.put-edge.ensures
+    let a = d.args in
+    let u = sym d.used.ensures ∙ not-false _ d.if-not-used.false-raw in
+    let e = line_used a.references.now a.service.now a.j u d.requires.1 d.requires.2 in
+    subst (λ (f : List ℕ). Wrote f (take (length a.out.now - a.at) (drop a.at a.out.now)) d.put_edge-put.result d.put_edge-put.new.part) e d.put_edge-put.ensures
 
-written : (d : tie.After-put-edge) (k : ℕ) → d.put-edge.result ≡ Done k →
-    let a = d.before.before.before.before.before.before.before.before.before.before.args in
+written : (d : After-put_edge-put) (k : ℕ) → d.put_edge-put.result ≡ Done k →
+    let a = d.args in
     Stored (edge_length width) (edge_line width a.references.now a.service.now a.j) a.at a.out.now (a.at + k)
-    (put_mid a.at (length a.out.now - a.at) a.out.now d.put-edge.new.0)
+    (put_mid a.at (length a.out.now - a.at) a.out.now d.put_edge-put.new.part)
 written d k e =
-    let a = d.before.before.before.before.before.before.before.before.before.before.args in
-    part_done a.at (edge_line width a.references.now a.service.now a.j) a.out.now d.put-edge.result d.put-edge.new.0
-    d.before.before.before.before.before.before.before.before.before.before.requires.0 (framed d) (edge_length width) k
+    let a = d.args in
+    part_done a.at (edge_line width a.references.now a.service.now a.j) a.out.now d.put_edge-put.result d.put_edge-put.new.part
+    d.requires.0 (framed d) (edge_length width) k
     (line_few a.references.now a.service.now a.j) e
 
 pub returns-then-not-used : goal.returns-then-not-used
@@ -46,7 +45,7 @@ returns-then-not-used c =
 pub overflow_add-result : goal.overflow_add-result
 overflow_add-result c =
     let v = written (goal.at.overflow_add-result c).After-put_edge-put c.in-Done.length c.in-Done.is in
-    omega (arith, v.after, c.requires.0, c.well-formed.0)
+    omega (arith, v.after, c.requires.0, c.well_formed.0)
 
 pub returns-in-Done : goal.returns-in-Done
 returns-in-Done c = written (goal.at.returns-in-Done c).After-put_edge-put c.in-Done.length c.in-Done.is
