@@ -1,13 +1,12 @@
 -- Digits of one number that spell several: the last k of a number do not depend on what stands above them, and two numbers side by
 -- side are one. So an answer's bytes are the digits of one number.
-use Prim.Native.Nat.{ℕ, zero, suc, ◌+◌, ◌*◌, ◌/◌, ◌%◌, ◌^◌, ◌≤◌, ◌<◌}
-use native.Mathlib.Nat.{add-zero, add-suc, zero-mul, mul_left_comm, pow-succ', div-add-mod'}
+use Prim.Native.Nat.{ℕ, zero, suc, ◌+◌, ◌*◌, ◌/◌, ◌%◌, ◌^◌, ◌<◌}
+use native.Mathlib.Nat.{add-zero, add-suc, mul_left_comm, pow-succ', div-add-mod'}
 use native.Mathlib.Omega.{arith}
 use mathlib.Core.Path.{◌≡◌, refl, sym, ◌∙◌, ap, ap₂}
 use mathlib.Core.List.{List, [], ◌∷◌, ◌++◌, append-nil, append_assoc}
 use Rattle.frames.specs.Digits.{digit_of, digits}
 use Rattle.frames.specs.Frames.{width}
-use Rattle.frames.proofs.DigitLaws.{digits_more}
 use Rattle.arraytext.specs.AnswerLines.{numbers, field}
 
 shifted : (x k : ℕ) → x * 16 ^ suc k ≡ 16 * (x * 16 ^ k)

@@ -9,7 +9,7 @@ use lib.ListN.{length}
 use lib.Dec.{ltb, eqb}
 use borrow.Author.Tests.{eqb-true, eq-eqb, ne_eqb, ltb-true, ltb-false, lt-ltb, le-ltb, eqb-false}
 use Rattle.mesh.specs.Search.{every}
-use Rattle.mesh.specs.Limits.{unused_mark, most_vertices, out_of_range, InRange, references_length, service_length}
+use Rattle.mesh.specs.Limits.{unused_mark, out_of_range, references_length, service_length}
 use Rattle.mesh.specs.Wood.{used}
 use Rattle.mesh.proofs.Tests.{by_bool, and_true, or_true}
 use Rattle.mesh.proofs.Search.{every_at}

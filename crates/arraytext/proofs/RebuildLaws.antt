@@ -1,18 +1,16 @@
 -- The text of a rebuilt mesh: its frames by the numbers that the code reads, its tables from the frames, the whole from the tables,
 -- and what the engine's answer says of it.
 use Prim.Native.Nat.{ℕ, ◌+◌, ◌-◌, ◌*◌, ◌/◌, ◌≤◌}
-use native.Mathlib.Nat.{add_assoc}
 use native.Mathlib.Omega.{arith}
-use mathlib.Core.Path.{◌≡◌, sym, ◌∙◌, ap}
-use mathlib.Core.List.{List, ◌++◌, append_assoc}
+use mathlib.Core.Path.{◌≡◌, sym, ◌∙◌}
+use mathlib.Core.List.{List}
 use lib.ListN.{length, take, drop}
 use borrow.Author.Tests.{ne_eqb}
 use borrow.Rule.Slice.PartMut.{put_mid}
-use Rattle.mesh.specs.Limits.{at, most_vertices, InRange, triangles_length, wood_length}
+use Rattle.mesh.specs.Limits.{at, InRange, triangles_length, wood_length}
 use Rattle.mesh.specs.Rebuild.{rebuild_says, rebuilt_wood, rebuilt_triangles}
 use Rattle.tables.specs.declared.outcome.Outcome.{Outcome}
 use Rattle.tables.specs.declared.outcome.Outcome.TheVariants.{Done, Refused}
-use Rattle.tables.specs.Outcome.{outcome}
 use Rattle.tables.proofs.OutcomeLaws.{outcome_once, refused_number, left_filled}
 use Rattle.frames.specs.declared.part.Put.{Put}
 use Rattle.frames.specs.Frames.{width, triangle_code, vertex_code, head_frame, triple_frame, frame_of, table_frames, house_text, mesh_text, refusal_line}

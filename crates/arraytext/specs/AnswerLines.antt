@@ -1,5 +1,5 @@
 -- What `answers` writes for an array's text: a line for each index from 0 to 3n, then one for each vertex from 0 to n (SPECIFICATION, section 11).
-use Rattle.std.specs.Prelude.{ℕ, zero, suc, ◌+◌, ◌*◌, ◌≤◌, ◌≡◌, List, [], ◌∷◌, ◌++◌, cond, get_or, eqb}
+use Rattle.std.specs.Prelude.{ℕ, zero, suc, ◌+◌, ◌*◌, ◌≤◌, ◌≡◌, List, [], ◌∷◌, ◌++◌, cond, eqb}
 use Rattle.mesh.specs.Search.{gather_from, gather}
 use Rattle.mesh.specs.Limits.{most_vertices}
 use Rattle.mesh.specs.Array.{left, right}
