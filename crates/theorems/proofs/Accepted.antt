@@ -20,7 +20,7 @@ use Rattle.mesh.proofs.Ladder.{free}
 use Rattle.mesh.proofs.Tests.{by_bool, clash, or_true, by_order}
 use Rattle.mesh.proofs.Search.{every_at}
 use Rattle.mesh.proofs.Iterate.{iterate_zero, iterate_step}
-use Rattle.mesh.proofs.Positions.{next_in, next_div, next_3, same_triangle, side_at_law}
+use Rattle.mesh.proofs.Positions.{next_div, next_3, same_triangle, side_at_law}
 use Rattle.mesh.specs.Paired.{Paired, twin, turn}
 use Rattle.mesh.proofs.Verdict.{table_part, table_paired}
 use Rattle.mesh.proofs.Paired.{next_within, simple, third_is, twin_2, twin_from, turn_from, turns_to, neighbour_side}

@@ -18,7 +18,7 @@ use Rattle.mesh.specs.Reading.{fronts_in, bytes_in, asked, front_answer, back_an
 use Rattle.mesh.proofs.Ladder.{free}
 use Rattle.mesh.proofs.Tests.{and_of}
 use Rattle.mesh.specs.Paired.{twin, turn}
-use Rattle.mesh.proofs.Paired.{third_is, twin_from, twin_to, next_within, turn_in, turn_from, turn_to}
+use Rattle.mesh.proofs.Paired.{twin_from, twin_to, next_within, turn_in, turn_from, turn_to}
 use Rattle.mesh.proofs.Verdict.{verdict_clear, clear_verdict}
 use Rattle.theorems.specs.Demand2.{AnswersEdgeJoining, AnswersAsTriangles}
 use Rattle.theorems.proofs.Accepted.{pairs}
