@@ -1,5 +1,5 @@
--- What is accepted, and what each number says. Read the statements in Ladder (`verdict-number`, `verdict-none`, `verdict-bound`), in
--- Meshes (`accepted-is-mesh`, `mesh-is-accepted`) and in Euler (`euler`); the other files take the tests and the sentences of a mesh
+-- What is accepted, and what each number says. Read the statements in Ladder (`verdict_number`, `verdict_none`, `verdict_among`), in
+-- Meshes (`accepted_is_mesh`, `mesh_is_accepted`) and in Euler (`euler`); the other files take the tests and the sentences of a mesh
 -- one group at a time.
 pub mod Ladder
 pub mod Corners

@@ -1,6 +1,6 @@
 -- The questions put to the array of an accepted mesh: each edge j has a position p at which it goes out, its Fronts and Backs are
--- read as the triangles give them (`front-answer`, `back-answer`), and Target answers its target in fewer reads than that has
--- neighbours (`target-answer`).
+-- read as the triangles give them (`front_answer_holds`, `back_answer_holds`), and Target answers its target in fewer reads than that has
+-- neighbours (`target_found`).
 use Prim.Native.Nat.{ℕ, suc, ◌+◌, ◌-◌, ◌*◌, ◌≤◌, ◌<◌}
 use mathlib.Core.Path.{◌≡◌, refl, sym, ap, ◌∙◌, subst}
 use mathlib.Core.List.{List, [], ◌∷◌}

@@ -1,6 +1,6 @@
 -- Back on either hand. At its source an edge of colour c out has beside it, on that hand, out c+s or into c+2s (`Near`); at its
 -- target, into c or out c+s (`Far`); s is 1 on the left and 2 on the right. So the bit tells the first two apart, and the colour of
--- the Front the other two: one law (`back-reads`) serves both hands. The colour law holds off the outer triangle; the three
+-- the Front the other two: one law (`back_reads`) serves both hands. The colour law holds off the outer triangle; the three
 -- exceptions that lie on it are read from the list.
 use Prim.Native.Nat.{ℕ, ◌+◌, ◌*◌, ◌/◌, ◌%◌, ◌≤◌, ◌<◌}
 use mathlib.Core.Path.{◌≡◌, refl, sym, ap, ◌∙◌}

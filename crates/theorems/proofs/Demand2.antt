@@ -1,5 +1,5 @@
 -- Demand 2: the array of an accepted mesh answers every question about an edge as its triangles do, and Target says how often it read.
--- `quick-as-slow` says it for every edge; `has-corners` says that every edge has a triangle on both sides, so nothing is left out.
+-- `quick_as_slow` says it for every edge; `has_corners` says that every edge has a triangle on both sides, so nothing is left out.
 use Prim.Native.Nat.{ℕ, ◌*◌, ◌<◌}
 use mathlib.Core.Path.{◌≡◌, refl, ap, ◌∙◌}
 use mathlib.Core.List.{List, [], ◌∷◌}

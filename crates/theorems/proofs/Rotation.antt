@@ -1,5 +1,5 @@
 -- A surface made of triangles as a rotation system on positions: the next side of a triangle, the reverse of a side (its twin),
--- the vertex that a side leaves, and the triangle that it lies in. `meets-all` says that a turn round a vertex meets all its sides.
+-- the vertex that a side leaves, and the triangle that it lies in. `meets_all` says that a turn round a vertex meets all its sides.
 -- Everything about accepted meshes above this file is proved over this record and looks at no table.
 use Prim.Native.Nat.{ℕ, zero, suc, ◌≤◌, ◌<◌}
 use mathlib.Core.Path.{◌≡◌, refl, sym, ap, ◌∙◌, subst}

@@ -88,7 +88,7 @@ module _ (n : ℕ) (ts : List ℕ) (P : Paired n ts) where
   steps_to v a s k =
       turns_to n ts P k s.position s.within ∙ ap (λ z. iterate (third ts z) k (to ts s.position)) s.starts ∙ ap (iterate (third ts v) k) s.ends
 
-  -- what one turn from a is: it closes after turnLength steps, and meets no neighbour twice on the way
+  -- what one turn from a is: it closes after `turn_length` steps, and meets no neighbour twice on the way
   pub record Turn (v a d : ℕ) : Type 0 where
     pub some_steps : 0 < d
     pub closes : iterate (third ts v) d a ≡ a
