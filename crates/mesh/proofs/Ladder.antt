@@ -109,9 +109,9 @@ first_among [] z = absurd (z refl)
 first_among (rung k fault ∷ l) z =
     by_bool fault
     (λ t. subst (λ x. (eqb k x || among x (numbers l)) ≡ true) (sym (stands k fault l t))
-        (or_left (eqb k k) (among k (numbers l)) (eq-eqb k k refl)))
+    (or_left (eqb k k) (among k (numbers l)) (eq-eqb k k refl)))
     (λ t. subst (λ x. (eqb k x || among x (numbers l)) ≡ true) (sym (falls k fault l t))
-        (or_right (eqb k (first_of l)) (among (first_of l) (numbers l)) (first_among l (λ e. z (falls k fault l t ∙ e)))))
+    (or_right (eqb k (first_of l)) (among (first_of l) (numbers l)) (first_among l (λ e. z (falls k fault l t ∙ e)))))
 
 -- where each number is m or more, so is the one given
 unfoldable pub above : ℕ → List ℕ → Bool
