@@ -1,4 +1,4 @@
--- One turn round a vertex. From any side at v the turn comes back after `turnLength` steps, by positions and by neighbours alike,
+-- One turn round a vertex. From any side at v the turn comes back after `turn_length` steps, by positions and by neighbours alike,
 -- and not before; and where number 8 does not apply it meets every side at v on the way.
 use Prim.Native.Nat.{ℕ, zero, suc, ◌+◌, ◌-◌, ◌≤◌, ◌<◌}
 use mathlib.Core.Path.{◌≡◌, refl, sym, ap, ◌∙◌}

@@ -1,5 +1,5 @@
 -- What a text means is exact: a text means n, triangles and targets if and only if it is their text, and it means nothing if and only
--- if it is nobody's. Over the digit count w; `readText` is the case of three digits.
+-- if it is nobody's. Over the digit count w; `read_text` is the case of three digits.
 use Prim.Native.Nat.{ℕ, ◌+◌, ◌-◌, ◌*◌, ◌/◌, ◌%◌, ◌^◌, ◌<◌}
 use native.Mathlib.Omega.{arith}
 use mathlib.Core.Path.{◌≡◌, sym, ◌∙◌, ap, subst}

@@ -1,7 +1,7 @@
 -- What each case of an answer means: its list, 0 and the values, or the refusal's number alone. A contract says that this list is the
 -- reading's; since different answers have different lists (proofs/AnswerLaws), it fixes the answer.
 -- Two enums have no list. PointAnswer's values are floats, not numbers, and Outcome (crate tables) has no value at all: there the
--- contract names the answer itself, by `pointAnswer` and by `outcome`.
+-- contract names the answer itself, by `point_answer` and by `outcome`.
 use Rattle.std.specs.Prelude.{ℕ, List, [], ◌∷◌, cond, eqb, Float}
 use Rattle.questions.specs.declared.answer.EdgeAnswer.{EdgeAnswer}
 use Rattle.questions.specs.declared.answer.EdgeAnswer.TheVariants.{Edge, Refused as RefusedEdge}
