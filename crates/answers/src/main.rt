@@ -3,16 +3,17 @@
 
 use arraytext::{ANSWERS_LIMIT, ARRAY_LIMIT};
 use frames::Put;
-use libc::{STDIN_FILENO, STDOUT_FILENO};
+use std::io;
 
-fn main() {
+fn main(rt: HostRuntime) -> io::Result<()> {
     // One byte more than the longest array's text, so that a longer one shows.
     let mut text = [0u8; ARRAY_LIMIT + 1];
-    let read = io::read_full(STDIN_FILENO, &mut text);
+    let read = streams::read_full(&mut rt.stdin(), &mut text)?;
     let mut out = [0u8; ANSWERS_LIMIT];
     let put = arraytext::answer_lines(&text[..read], &mut out);
     // The buffer has room for the longest output, so it is never refused.
     if let Put::Done(length) = put {
-        io::write_all(STDOUT_FILENO, &out[..length]);
+        rt.write_all(&out[..length])?;
     }
+    Ok(())
 }

@@ -2,52 +2,54 @@
 #![tactic(auto)]
 
 use garment::{EdgeAnswer, Outcome, TargetAnswer, UNUSED};
-use libc::STDOUT_FILENO;
+use std::io;
 
 const N: usize = 4;
 
-fn say(words: &[u8], number: u16) {
-    io::write_all(STDOUT_FILENO, words);
-    io::print_decimal(STDOUT_FILENO, number as u64);
-    io::write_all(STDOUT_FILENO, b"\n");
+fn say(rt: &impl Print, words: &str, number: u16) -> io::Result<()> {
+    println!(rt; "{words}{number}")
 }
 
-fn say_edge(words: &[u8], answer: EdgeAnswer) {
+fn say_edge(rt: &impl Print, words: &str, answer: EdgeAnswer) -> io::Result<()> {
     match answer {
-        EdgeAnswer::Edge(e) => say(words, e),
-        EdgeAnswer::Refused(number) => say(b"refused: ", number as u16),
+        EdgeAnswer::Edge(e) => say(rt, words, e),
+        EdgeAnswer::Refused(number) => say(rt, "refused: ", number as u16),
     }
 }
 
 // Edge 9 leaves vertex 3 with colour 0. Nothing is searched: each answer takes a few reads of the array.
-fn ask(references: &[u16], service: &[u8]) {
+fn ask(rt: &impl Print, references: &[u16], service: &[u8]) -> io::Result<()> {
     say_edge(
-        b"LeftFront of 9 is edge ",
+        rt,
+        "LeftFront of 9 is edge ",
         garment::left_front(N, references, 9),
-    );
+    )?;
     say_edge(
-        b"LeftBack of 9 is edge ",
+        rt,
+        "LeftBack of 9 is edge ",
         garment::left_back(N, references, service, 9),
-    );
+    )?;
     let target = garment::target(N, references, 9);
     if let TargetAnswer::Reached { vertex, reads } = target {
-        say(b"Target of 9 is vertex ", vertex);
-        say(b"reads: ", reads);
+        say(rt, "Target of 9 is vertex ", vertex)?;
+        say(rt, "reads: ", reads)?;
     }
+    Ok(())
 }
 
 // From the references alone: the wood, and the triangles in an order of their own.
-fn again(references: &[u16]) {
+fn again(rt: &impl Print, references: &[u16]) -> io::Result<()> {
     let mut wood = [UNUSED; 3 * N];
     let mut triangles = [UNUSED; 6 * N - 12];
     let outcome = garment::rebuild(N, references, &mut wood, &mut triangles);
     if let Outcome::Done = outcome {
-        say(b"rebuilt: edge 9 ends at vertex ", wood[9]);
-        say(b"rebuilt: the first corner is vertex ", triangles[0]);
+        say(rt, "rebuilt: edge 9 ends at vertex ", wood[9])?;
+        say(rt, "rebuilt: the first corner is vertex ", triangles[0])?;
     }
+    Ok(())
 }
 
-fn main() {
+fn main(rt: HostRuntime) -> io::Result<()> {
     let triangles = [0u16, 2, 1, 0, 1, 3, 1, 2, 3, 2, 0, 3];
     let mut wood = [UNUSED; 3 * N];
     wood[3] = 0;
@@ -61,9 +63,9 @@ fn main() {
     let outcome = garment::build(N, &triangles, &wood, &mut references, &mut service);
     match outcome {
         Outcome::Done => {
-            ask(&references, &service);
-            again(&references);
+            ask(&rt, &references, &service)?;
+            again(&rt, &references)
         }
-        Outcome::Refused(number) => say(b"refused: ", number as u16),
+        Outcome::Refused(number) => say(&rt, "refused: ", number as u16),
     }
 }

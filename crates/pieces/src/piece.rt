@@ -5,6 +5,7 @@ use crate::rebuilds::rebuilt;
 use crate::say;
 use crate::table::{UNUSED, fill};
 use garment::{Outcome, build};
+use std::io;
 
 // What is asked of a piece's array: Four is P1 to P4.
 #[derive(Clone, Copy)]
@@ -16,43 +17,66 @@ pub(crate) enum Ask {
     Four,
 }
 
-fn target(name: &[u8], n: usize, references: &[u16], j: usize) {
-    say::target(name, garment::target(n, references, j));
+fn target(rt: &impl Print, name: &str, n: usize, references: &[u16], j: usize) -> io::Result<()> {
+    say::target(rt, name, garment::target(n, references, j))
 }
 
-fn left_back(name: &[u8], n: usize, references: &[u16], service: &[u8], j: usize) {
+fn left_back(
+    rt: &impl Print,
+    name: &str,
+    n: usize,
+    references: &[u16],
+    service: &[u8],
+    j: usize,
+) -> io::Result<()> {
     say::edge(
+        rt,
         name,
-        b" LeftBack",
+        " LeftBack",
         j,
         garment::left_back(n, references, service, j),
-    );
+    )
 }
 
-fn right_back(name: &[u8], n: usize, references: &[u16], service: &[u8], j: usize) {
+fn right_back(
+    rt: &impl Print,
+    name: &str,
+    n: usize,
+    references: &[u16],
+    service: &[u8],
+    j: usize,
+) -> io::Result<()> {
     say::edge(
+        rt,
         name,
-        b" RightBack",
+        " RightBack",
         j,
         garment::right_back(n, references, service, j),
-    );
+    )
 }
 
 // P1 to P4.
-fn four_questions(references: &[u16], service: &[u8]) {
-    target(b"P1", 4, references, 6);
-    target(b"P2", 4, references, 3);
-    target(b"P3", 4, references, 11);
-    right_back(b"P4", 4, references, service, 6);
+fn four_questions(rt: &impl Print, references: &[u16], service: &[u8]) -> io::Result<()> {
+    target(rt, "P1", 4, references, 6)?;
+    target(rt, "P2", 4, references, 3)?;
+    target(rt, "P3", 4, references, 11)?;
+    right_back(rt, "P4", 4, references, service, 6)
 }
 
-fn question(name: &[u8], n: usize, references: &[u16], service: &[u8], ask: Ask) {
+fn question(
+    rt: &impl Print,
+    name: &str,
+    n: usize,
+    references: &[u16],
+    service: &[u8],
+    ask: Ask,
+) -> io::Result<()> {
     match ask {
-        Ask::Nothing => {}
-        Ask::Target(j) => target(name, n, references, j),
-        Ask::LeftBack(j) => left_back(name, n, references, service, j),
-        Ask::RightBack(j) => right_back(name, n, references, service, j),
-        Ask::Four => four_questions(references, service),
+        Ask::Nothing => Ok(()),
+        Ask::Target(j) => target(rt, name, n, references, j),
+        Ask::LeftBack(j) => left_back(rt, name, n, references, service, j),
+        Ask::RightBack(j) => right_back(rt, name, n, references, service, j),
+        Ask::Four => four_questions(rt, references, service),
     }
 }
 
@@ -66,36 +90,47 @@ fn is_done(outcome: Outcome) -> bool {
 
 // Whether it is built.
 fn built(
-    name: &[u8],
+    rt: &impl Print,
+    name: &str,
     n: usize,
     triangles: &[u16],
     wood: &[u16],
     references: &mut [u16],
     service: &mut [u8],
-) -> bool {
+) -> io::Result<bool> {
     let outcome = build(n, triangles, wood, references, service);
-    say::outcome(name, b" build", outcome);
-    is_done(outcome)
+    say::outcome(rt, name, " build", outcome)?;
+    Ok(is_done(outcome))
 }
 
 fn shown(
-    name: &[u8],
+    rt: &impl Print,
+    name: &str,
     n: usize,
     triangles: &mut [u16],
     wood: &mut [u16],
     references: &mut [u16],
     service: &mut [u8],
     ask: Ask,
-) {
-    if built(name, n, triangles, wood, references, service) {
-        question(name, n, references, service, ask);
-        rebuilt(name, n, references, wood, triangles);
+) -> io::Result<()> {
+    if built(rt, name, n, triangles, wood, references, service)? {
+        question(rt, name, n, references, service, ask)?;
+        rebuilt(rt, name, n, references, wood, triangles)?;
     }
+    Ok(())
 }
 
 // The piece with these corners and targets, as digits; '-' is unused.
-pub(crate) fn run(name: &[u8], n: usize, corners: &[u8], targets: &[u8], ask: Ask)
-    requires { (length corners.now ≤ 48) × (length targets.now ≤ 30) }
+pub(crate) fn run(
+    rt: &impl Print,
+    name: &str,
+    n: usize,
+    corners: &[u8],
+    targets: &[u8],
+    ask: Ask,
+) -> io::Result<()>
+    requires corners { length corners.now ≤ 48 }
+    requires targets { length targets.now ≤ 30 }
 {
     let mut triangles = [UNUSED; 48];
     let mut wood = [UNUSED; 30];
@@ -106,6 +141,7 @@ pub(crate) fn run(name: &[u8], n: usize, corners: &[u8], targets: &[u8], ask: As
     fill(&mut triangles, corners);
     fill(&mut wood, targets);
     shown(
+        rt,
         name,
         n,
         &mut triangles[..c],
@@ -113,5 +149,5 @@ pub(crate) fn run(name: &[u8], n: usize, corners: &[u8], targets: &[u8], ask: As
         &mut references[..2 * e],
         &mut service[..e],
         ask,
-    );
+    )
 }

@@ -2,6 +2,7 @@
 use crate::say;
 use crate::table::mark;
 use garment::Outcome;
+use std::io;
 
 fn rebuild(n: usize, references: &[u16], wood: &mut [u16], triangles: &mut [u16]) -> Outcome {
     mark(wood);
@@ -10,28 +11,29 @@ fn rebuild(n: usize, references: &[u16], wood: &mut [u16], triangles: &mut [u16]
 }
 
 pub(crate) fn rebuilt(
-    name: &[u8],
+    rt: &impl Print,
+    name: &str,
     n: usize,
     references: &[u16],
     wood: &mut [u16],
     triangles: &mut [u16],
-) {
+) -> io::Result<()> {
     let outcome = rebuild(n, references, wood, triangles);
-    say::outcome(name, b" rebuild", outcome);
-    say::mesh(name, triangles, wood);
+    say::outcome(rt, name, " rebuild", outcome)?;
+    say::mesh(rt, name, triangles, wood)
 }
 
 // Tables for four vertices, and references that no mesh has.
-fn refused(name: &[u8], n: usize) {
+fn refused(rt: &impl Print, name: &str, n: usize) -> io::Result<()> {
     let references = [0u16; 24];
     let mut wood = [0u16; 12];
     let mut triangles = [0u16; 12];
-    rebuilt(name, n, &references, &mut wood, &mut triangles);
+    rebuilt(rt, name, n, &references, &mut wood, &mut triangles)
 }
 
 // 1 and 2 leave the marks; 18 fills both tables with 65,535.
-pub(crate) fn run() {
-    refused(b"two vertices:", 2);
-    refused(b"three vertices:", 3);
-    refused(b"no mesh:", 4);
+pub(crate) fn run(rt: &impl Print) -> io::Result<()> {
+    refused(rt, "two vertices:", 2)?;
+    refused(rt, "three vertices:", 3)?;
+    refused(rt, "no mesh:", 4)
 }

@@ -1,31 +1,29 @@
 // What is printed: a name, then what the engine found, one line for each.
 use garment::{EdgeAnswer, Outcome, TargetAnswer};
-use libc::STDOUT_FILENO;
+use std::io;
 
-pub(crate) fn words(text: &[u8]) {
-    io::write_all(STDOUT_FILENO, text);
+pub(crate) fn words(rt: &impl Print, text: &str) -> io::Result<()> {
+    rt.print(text)
 }
 
-pub(crate) fn number(x: u64) {
-    words(b" ");
-    io::print_decimal(STDOUT_FILENO, x);
+pub(crate) fn number(rt: &impl Print, x: u64) -> io::Result<()> {
+    print!(rt; " {x}")
 }
 
-pub(crate) fn line_end() {
-    words(b"\n");
+pub(crate) fn line_end(rt: &impl Print) -> io::Result<()> {
+    words(rt, "\n")
 }
 
-pub(crate) fn refused(k: u8) {
-    words(b" refused");
-    number(k as u64);
+pub(crate) fn refused(rt: &impl Print, k: u8) -> io::Result<()> {
+    words(rt, " refused")?;
+    number(rt, k as u64)
 }
 
-fn numbers(table: &[u16]) {
-    let mut i: usize = 0;
-    while i < table.len() {
-        number(table[i] as u64);
-        i += 1;
+fn numbers(rt: &impl Print, table: &[u16]) -> io::Result<()> {
+    for x in table {
+        number(rt, *x as u64)?;
     }
+    Ok(())
 }
 
 // 0 where a build or a rebuild is done, else the refusal's number.
@@ -37,54 +35,56 @@ fn number_of(outcome: Outcome) -> u64 {
     }
 }
 
-pub(crate) fn outcome(name: &[u8], what: &[u8], outcome: Outcome) {
-    words(name);
-    words(what);
-    number(number_of(outcome));
-    line_end();
+pub(crate) fn outcome(rt: &impl Print, name: &str, what: &str, outcome: Outcome) -> io::Result<()> {
+    words(rt, name)?;
+    words(rt, what)?;
+    number(rt, number_of(outcome))?;
+    line_end(rt)
 }
 
-fn reached(vertex: u16, reads: u16) {
-    words(b" target");
-    number(vertex as u64);
-    words(b" reads");
-    number(reads as u64);
+fn reached(rt: &impl Print, vertex: u16, reads: u16) -> io::Result<()> {
+    words(rt, " target")?;
+    number(rt, vertex as u64)?;
+    words(rt, " reads")?;
+    number(rt, reads as u64)
 }
 
-pub(crate) fn target(name: &[u8], answer: TargetAnswer) {
-    words(name);
+pub(crate) fn target(rt: &impl Print, name: &str, answer: TargetAnswer) -> io::Result<()> {
+    words(rt, name)?;
     match answer {
-        TargetAnswer::Reached { vertex, reads } => reached(vertex, reads),
-        TargetAnswer::Refused(k) => refused(k),
+        TargetAnswer::Reached { vertex, reads } => reached(rt, vertex, reads)?,
+        TargetAnswer::Refused(k) => refused(rt, k)?,
     }
-    line_end();
+    line_end(rt)
 }
 
-fn asked(name: &[u8], what: &[u8], j: usize) {
-    words(name);
-    words(what);
-    words(b"(");
-    io::print_decimal(STDOUT_FILENO, j as u64);
-    words(b")");
+fn asked(rt: &impl Print, name: &str, what: &str, j: usize) -> io::Result<()> {
+    print!(rt; "{name}{what}({j})")
 }
 
-pub(crate) fn edge(name: &[u8], what: &[u8], j: usize, answer: EdgeAnswer) {
-    asked(name, what, j);
+pub(crate) fn edge(
+    rt: &impl Print,
+    name: &str,
+    what: &str,
+    j: usize,
+    answer: EdgeAnswer,
+) -> io::Result<()> {
+    asked(rt, name, what, j)?;
     match answer {
-        EdgeAnswer::Edge(e) => number(e as u64),
-        EdgeAnswer::Refused(k) => refused(k),
+        EdgeAnswer::Edge(e) => number(rt, e as u64)?,
+        EdgeAnswer::Refused(k) => refused(rt, k)?,
     }
-    line_end();
+    line_end(rt)
 }
 
-fn table(what: &[u8], table: &[u16]) {
-    words(what);
-    numbers(table);
+fn table(rt: &impl Print, what: &str, table: &[u16]) -> io::Result<()> {
+    words(rt, what)?;
+    numbers(rt, table)
 }
 
-pub(crate) fn mesh(name: &[u8], triangles: &[u16], wood: &[u16]) {
-    words(name);
-    table(b" rebuild triangles", triangles);
-    table(b" wood", wood);
-    line_end();
+pub(crate) fn mesh(rt: &impl Print, name: &str, triangles: &[u16], wood: &[u16]) -> io::Result<()> {
+    words(rt, name)?;
+    table(rt, " rebuild triangles", triangles)?;
+    table(rt, " wood", wood)?;
+    line_end(rt)
 }
