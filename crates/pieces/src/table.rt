@@ -22,10 +22,8 @@ fn number_in(digits: &[u8], i: usize) -> u16 {
 }
 
 pub(crate) fn fill(table: &mut [u16], digits: &[u8]) {
-    let mut i: usize = 0;
-    while i < table.len() {
-        table[i] = number_in(digits, i);
-        i += 1;
+    for (i, number) in table.iter_mut().enumerate() {
+        *number = number_in(digits, i);
     }
 }
 
