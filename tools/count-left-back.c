@@ -1,6 +1,5 @@
-/* Puts the questions on standard input to the probe and writes a line for each. With the word `step`: its answer, and how many
-   instructions the call executed, counted by stepping through it one by one. Without: its answer alone, after one line with the
-   addresses at which the call begins and ends, for whoever traces this program from outside.
+/* Puts the questions on standard input to the probe and writes a line for each: its answer, and how many instructions the call
+   executed, counted by stepping through it one by one.
    No header is needed, so that any C compiler for x86-64 builds it. */
 
 typedef unsigned long word;
@@ -96,12 +95,8 @@ static int step_all(void) {
     }
 }
 
-int main(int words, char **word_at) {
+int main(void) {
     long got;
     while ((got = read(0, input + length, sizeof input - length)) > 0) length += got;
-    if (words > 1 && word_at[1][0] == 's') return step_all();
-    struct question q;
-    printf("%lu %lu\n", (word)probe_left_back, (word)after);
-    while (next(&q)) printf("%u\n", ask(&q));
-    return 0;
+    return step_all();
 }
