@@ -23,14 +23,14 @@ fitting c = sym c.wrong_lengths.ensures ∙ c.if-wrong_lengths.false
 right : (c : Else-wrong_lengths)
     → let a = c.args in
     RightLengths a.n (length a.triangles.now) (length a.wood.now) (length a.references.now) (length a.service.now)
-right c = fit_lengths _ _ _ _ _ (not-false _ ((sym c.wrong_lengths.ensures ∙ c.if-wrong_lengths.false)))
+right c = fit_lengths _ _ _ _ _ (not-false _ (sym c.wrong_lengths.ensures ∙ c.if-wrong_lengths.false))
 
 -- the check gives the build's number; past the third test it is 0
 found : (c : After-check-fault)
     → let a = c.args in
     build_says a.n a.triangles.now a.wood.now a.references.now a.service.now ≡ c.check-fault.result
 found c =
-    says_mesh _ _ _ _ _ ((sym c.out_of_range.ensures ∙ c.if-out_of_range.false)) ((sym c.wrong_lengths.ensures ∙ c.if-wrong_lengths.false)) ∙ sym c.check-fault.ensures.answer
+    says_mesh _ _ _ _ _ (sym c.out_of_range.ensures ∙ c.if-out_of_range.false) (sym c.wrong_lengths.ensures ∙ c.if-wrong_lengths.false) ∙ sym c.check-fault.ensures.answer
 
 accepted : (c : Else-fault-gt0) → c.check-fault.result ≡ 0
 accepted c = omega arith
@@ -43,12 +43,14 @@ wrong_lengths-requires c = in_range _ (ranged c)
 
 pub returns-then-wrong_lengths : goal.returns-then-wrong_lengths
 returns-then-wrong_lengths c =
-    build_refused _ _ _ _ _ 2 (says_2 _ _ _ _ _ (ranged (goal.at.returns-then-wrong_lengths c).Else-out_of_range) (sym c.wrong_lengths.ensures ∙ c.if-wrong_lengths.true)) (λ e. omega arith)
+    let p = (goal.at.returns-then-wrong_lengths c).Else-out_of_range in
+    build_refused _ _ _ _ _ 2 (says_2 _ _ _ _ _ (ranged p) (sym c.wrong_lengths.ensures ∙ c.if-wrong_lengths.true)) (λ e. omega arith)
 
 pub check-fault-requires : goal.check-fault-requires
 check-fault-requires c =
-    let i = in_range _ (ranged (goal.at.check-fault-requires c).Else-out_of_range) in
-    let r = right (goal.at.check-fault-requires c).Else-wrong_lengths in
+    let p = goal.at.check-fault-requires c in
+    let i = in_range _ (ranged p.Else-out_of_range) in
+    let r = right p.Else-wrong_lengths in
     record {
       range = i;
       triangles_right = r.triangles_right;
@@ -63,12 +65,15 @@ returns-then-fault-gt0 c =
 
 pub fill_references-requires : goal.fill_references-requires
 fill_references-requires c =
-    (c.check-fault.ensures.filling (accepted (goal.at.fill_references-requires c).Else-fault-gt0), (right (goal.at.fill_references-requires c).Else-wrong_lengths).references_right)
+    let p = goal.at.fill_references-requires c in
+    (c.check-fault.ensures.filling (accepted p.Else-fault-gt0), (right p.Else-wrong_lengths).references_right)
 
 pub fill_service-requires : goal.fill_service-requires
 fill_service-requires c =
-    (c.check-fault.ensures.filling (accepted (goal.at.fill_service-requires c).Else-fault-gt0), (right (goal.at.fill_service-requires c).Else-wrong_lengths).service_right)
+    let p = goal.at.fill_service-requires c in
+    (c.check-fault.ensures.filling (accepted p.Else-fault-gt0), (right p.Else-wrong_lengths).service_right)
 
 pub returns : goal.returns
 returns c =
-    build_filled _ _ _ _ _ _ _ (found (goal.at.returns c).After-check-fault ∙ accepted (goal.at.returns c).Else-fault-gt0) c.fill_references.ensures c.fill_service.ensures
+    let p = goal.at.returns c in
+    build_filled _ _ _ _ _ _ _ (found p.After-check-fault ∙ accepted p.Else-fault-gt0) c.fill_references.ensures c.fill_service.ensures

@@ -29,11 +29,14 @@ pub slice_bounds-put_lines-count : goal.slice_bounds-put_lines-count
 slice_bounds-put_lines-count c = omega (arith, behind (goal.at.slice_bounds-put_lines-count c).After-put_lines-vertices)
 
 pub put_lines-requires : goal.put_lines-requires
-put_lines-requires c = omega (arith, behind (goal.at.put_lines-requires c).After-put_lines-vertices, length_rest c.put_lines-vertices.result c.put_lines-vertices.new.part)
+put_lines-requires c =
+    let p = (goal.at.put_lines-requires c).After-put_lines-vertices in
+    omega (arith, behind p, length_rest c.put_lines-vertices.result c.put_lines-vertices.new.part)
 
 pub overflow_add-result : goal.overflow_add-result
 overflow_add-result c =
-    omega (arith, behind (goal.at.overflow_add-result c).After-put_lines-vertices, c.put_lines.ensures.few, c.put_lines.ensures.after, stored_length _ _ _ _ _ _ c.put_lines-vertices.ensures)
+    let p = (goal.at.overflow_add-result c).After-put_lines-vertices in
+    omega (arith, behind p, c.put_lines.ensures.few, c.put_lines.ensures.after, stored_length _ _ _ _ _ _ c.put_lines-vertices.ensures)
 
 pub returns : goal.returns
 returns c =

@@ -42,15 +42,17 @@ slice_bounds-put_digits-start c = omega (arith, room (goal.at.slice_bounds-put_d
 
 pub overflow_add-at : goal.overflow_add-at
 overflow_add-at c =
-    omega (arith, room (goal.at.overflow_add-at c).After-line_field-answer, kept (goal.at.overflow_add-at c).At-loop-k)
+    let p = goal.at.overflow_add-at c in
+    omega (arith, room p.After-line_field-answer, kept p.At-loop-k)
 
 pub loop-k-preserved : goal.loop-k-preserved
 loop-k-preserved c =
+    let p = (goal.at.loop-k-preserved c).After-line_field-answer in
     let a = c.args in (
       omega arith,
       fields_more (answer_at a.code a.n a.references.now a.service.now a.x) c.loop-k.k c.loop-k.at c.line_field-answer.result.count c.line_field-answer.result.value
           a.part.now c.loop-k.part _ c.line_field-answer.ensures.few c.line_field-answer.ensures.spelled c.loop-k.invariant.1
-          (part_digits c.loop-k.at c.line_field-answer.result.count c.line_field-answer.result.value c.loop-k.part c.put_digits.result c.put_digits.new.part (room (goal.at.loop-k-preserved c).After-line_field-answer) c.put_digits.ensures),
+          (part_digits c.loop-k.at c.line_field-answer.result.count c.line_field-answer.result.value c.loop-k.part c.put_digits.result c.put_digits.new.part (room p) c.put_digits.ensures),
     )
 
 pub shape_of-part : goal.shape_of-part

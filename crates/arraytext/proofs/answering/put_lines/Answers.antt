@@ -31,14 +31,16 @@ put_line-at-requires c = omega (arith, room (goal.at.put_line-at-requires c).In-
 
 pub overflow_add-at : goal.overflow_add-at
 overflow_add-at c =
-    omega (arith, room (goal.at.overflow_add-at c).In-loop-x, kept (goal.at.overflow_add-at c).At-loop-x, c.put_line-at.ensures.few, c.put_line-at.ensures.after)
+    let p = goal.at.overflow_add-at c in
+    omega (arith, room p.In-loop-x, kept p.At-loop-x, c.put_line-at.ensures.few, c.put_line-at.ensures.after)
 
 pub loop-x-preserved : goal.loop-x-preserved
 loop-x-preserved c =
+    let p = (goal.at.loop-x-preserved c).In-loop-x in
     let a = c.args in (
       omega arith,
       lines_more (line_most a.code) (answer_line a.code a.n a.references.now a.service.now) 0 a.part.now c.loop-x.x c.loop-x.at (c.loop-x.at + c.put_line-at.result) c.loop-x.part _ c.loop-x.invariant.1
-          (part_placed (line_most a.code) c.loop-x.at c.put_line-at.result _ c.loop-x.part c.put_line-at.new.part (room (goal.at.loop-x-preserved c).In-loop-x) c.put_line-at.ensures),
+          (part_placed (line_most a.code) c.loop-x.at c.put_line-at.result _ c.loop-x.part c.put_line-at.new.part (room p) c.put_line-at.ensures),
     )
 
 pub shape_of-part : goal.shape_of-part

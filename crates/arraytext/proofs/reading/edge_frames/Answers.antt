@@ -1,7 +1,6 @@
 -- `edge_frames` passes the edges' frames, and stops at the first that is none.
 use mathlib.Core.Path.{sym, ◌∙◌}
 use borrow.Author.Count.{below_more}
-use borrow.Author.Tests.{not-true, not-false}
 use Rattle.mesh.specs.Search.{every}
 use Rattle.mesh.proofs.Tests.{by_bool, clash}
 use Rattle.mesh.proofs.Search.{every_at, every_of}
@@ -19,12 +18,12 @@ returns-then-not-is_edge_frame c =
     let j = c.loop-j.j in
     by_bool (every (is_edge_frame a.text.now) a.count)
     (λ t. clash (is_edge_frame a.text.now j) (every_at (is_edge_frame a.text.now) a.count t j c.loop-j-test.true)
-    (sym c.is_edge_frame.ensures ∙ not-true _ c.if-not-is_edge_frame.true-raw))
+    (sym c.is_edge_frame.ensures ∙ c.if-not-is_edge_frame.true))
     (λ t. sym t)
 
 pub loop-j-preserved : goal.loop-j-preserved
 loop-j-preserved c =
-    (omega arith, below_more _ _ c.loop-j.invariant.1 (sym c.is_edge_frame.ensures ∙ not-false _ c.if-not-is_edge_frame.false-raw))
+    (omega arith, below_more _ _ c.loop-j.invariant.1 (sym c.is_edge_frame.ensures ∙ c.if-not-is_edge_frame.false))
 
 pub returns : goal.returns
 returns c =

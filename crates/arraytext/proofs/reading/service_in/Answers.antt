@@ -1,6 +1,5 @@
 -- `service_in` reads the digit where the edge's frame has it.
 use mathlib.Core.Path.{◌≡◌, sym, ◌∙◌}
-use borrow.Author.Tests.{not-true, not-false}
 use mathlib.Core.Bool.{true}
 use Rattle.mesh.specs.Wood.{used}
 use Rattle.arraytext.specs.ArrayText.{HasFrame}
@@ -10,16 +9,16 @@ use Rattle.arraytext.proofs.reading.service_in.Goals.{Else-not-used}
 use Rattle.arraytext.proofs.reading.service_in.Goals as goal
 
 is_used : (d : Else-not-used) → used d.args.j ≡ true
-is_used d = sym d.used.ensures ∙ not-false _ d.if-not-used.false-raw
+is_used d = sym d.used.ensures ∙ d.if-not-used.false
 
 framed : (d : Else-not-used) → HasFrame d.args.text.now d.args.j
 framed d =
-    has_frame d.args.n d.args.text.now d.requires.0 d.args.j ((sym d.used.ensures ∙ not-false _ d.if-not-used.false-raw)) d.requires.1
+    has_frame d.args.n d.args.text.now d.requires.0 d.args.j (sym d.used.ensures ∙ d.if-not-used.false) d.requires.1
 
 pub returns-then-not-used : goal.returns-then-not-used
 returns-then-not-used c =
     let a = c.args in
-    sym (service_unused a.text.now a.j (sym c.used.ensures ∙ not-true _ c.if-not-used.true-raw))
+    sym (service_unused a.text.now a.j (sym c.used.ensures ∙ c.if-not-used.true))
 
 pub number_in-requires : goal.number_in-requires
 number_in-requires c = (framed c, omega arith, omega arith)

@@ -29,15 +29,17 @@ slice_bounds-put_triple-count c = omega (arith, room c)
 
 pub overflow_add-place : goal.overflow_add-place
 overflow_add-place c =
-    omega (arith, room (goal.at.overflow_add-place c).In-loop-i, kept (goal.at.overflow_add-place c).At-loop-i)
+    let p = goal.at.overflow_add-place c in
+    omega (arith, room p.In-loop-i, kept p.At-loop-i)
 
 pub loop-i-preserved : goal.loop-i-preserved
 loop-i-preserved c =
+    let p = (goal.at.loop-i-preserved c).In-loop-i in
     let a = c.args in (
       omega arith,
       lines_more (frame_length width) (frame_of width a.code a.table.now) 0 a.part.now c.loop-i.i c.loop-i.place (c.loop-i.place + frame_length width) c.loop-i.part _ c.loop-i.invariant.1
           (frame_placed a.code c.loop-i.i c.loop-i.place c.at.result c.at-in-loop-i.result c.at-in-loop-i-2.result a.table.now c.loop-i.part c.put_triple.result c.put_triple.new.part
-          c.at.ensures c.at-in-loop-i.ensures c.at-in-loop-i-2.ensures (room (goal.at.loop-i-preserved c).In-loop-i) c.put_triple.ensures),
+          c.at.ensures c.at-in-loop-i.ensures c.at-in-loop-i-2.ensures (room p) c.put_triple.ensures),
     )
 
 pub shape_of-part : goal.shape_of-part

@@ -40,7 +40,8 @@ slice_bounds-rebuild_mesh-end-3 c = triangles_long (goal.at.slice_bounds-rebuild
 
 pub rebuild_mesh-requires : goal.rebuild_mesh-requires
 rebuild_mesh-requires c =
-    (record { range = c.requires.0.range; references_right = references_long (goal.at.rebuild_mesh-requires c).After-read_array; wood_right = sym (wood_long (goal.at.rebuild_mesh-requires c).After-read_array); triangles_right = sym (triangles_long (goal.at.rebuild_mesh-requires c).After-read_array) }, c.requires.1)
+    let p = (goal.at.rebuild_mesh-requires c).After-read_array in
+    (record { range = c.requires.0.range; references_right = references_long p; wood_right = sym (wood_long p); triangles_right = sym (triangles_long p) }, c.requires.1)
 
 pub returns : goal.returns
 returns c =

@@ -2,7 +2,6 @@
 use mathlib.Core.Path.{sym, ◌∙◌}
 use Prim.Native.Nat.{◌+◌}
 use borrow.Author.Count.{below_more}
-use borrow.Author.Tests.{not-true, not-false}
 use Rattle.mesh.proofs.Tests.{by_bool, clash}
 use Rattle.frames.specs.Digits.{byte_at, is_digit, digits_at}
 use Rattle.frames.proofs.DigitReadLaws.{digits_each, digits_of}
@@ -18,12 +17,12 @@ returns-then-not-is_digit c =
     let a = c.args in
     by_bool (digits_at a.k a.text.now a.p)
     (λ t. clash (is_digit (byte_at a.text.now (a.p + c.loop-i.i))) (digits_each a.k a.text.now a.p c.loop-i.i t c.loop-i-test.true)
-    (sym c.is_digit.ensures ∙ not-true _ c.if-not-is_digit.true-raw))
+    (sym c.is_digit.ensures ∙ c.if-not-is_digit.true))
     (λ t. sym t)
 
 pub loop-i-preserved : goal.loop-i-preserved
 loop-i-preserved c =
-    (omega arith, below_more _ _ c.loop-i.invariant.1 (sym c.is_digit.ensures ∙ not-false _ c.if-not-is_digit.false-raw))
+    (omega arith, below_more _ _ c.loop-i.invariant.1 (sym c.is_digit.ensures ∙ c.if-not-is_digit.false))
 
 pub returns : goal.returns
 returns c =

@@ -1,6 +1,5 @@
 -- `line_there` meets the tests in the order of its definition.
 use mathlib.Core.Path.{sym, ◌∙◌}
-use borrow.Author.Tests.{not-true, not-false}
 use Rattle.frames.proofs.LineLaws.{line_high, line_low, line_body, line_end}
 use Rattle.frames.proofs.line.line_there.Goals as goal
 
@@ -18,10 +17,10 @@ pub returns-then-not-digits_at : goal.returns-then-not-digits_at
 returns-then-not-digits_at c =
     let a = c.args in
     sym (line_body a.code a.m a.text.now a.p (c.if-text-p.false ∙ c.digit-high.ensures) (c.if-text-p-2.false ∙ c.digit-low.ensures)
-    (sym c.digits_at.ensures ∙ not-true _ c.if-not-digits_at.true-raw))
+    (sym c.digits_at.ensures ∙ c.if-not-digits_at.true))
 
 pub returns : goal.returns
 returns c =
     let a = c.args in
     sym (line_end a.code a.m a.text.now a.p (c.if-text-p.false ∙ c.digit-high.ensures) (c.if-text-p-2.false ∙ c.digit-low.ensures)
-    (sym c.digits_at.ensures ∙ not-false _ c.if-not-digits_at.false-raw))
+    (sym c.digits_at.ensures ∙ c.if-not-digits_at.false))

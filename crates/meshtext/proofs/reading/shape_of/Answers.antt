@@ -2,7 +2,6 @@
 use native.Mathlib.Omega.{arith}
 use mathlib.Core.Path.{◌≡◌, sym, ◌∙◌}
 use mathlib.Core.Bool.{true}
-use borrow.Author.Tests.{not-true, not-false}
 use Rattle.frames.specs.Frames.{width, head_code}
 use Rattle.frames.specs.Lines.{is_head}
 use Rattle.frames.proofs.LineLaws.{line_inside}
@@ -12,10 +11,10 @@ use Rattle.meshtext.proofs.reading.shape_of.Goals as goal
 
 pub returns-then-not-is_line : goal.returns-then-not-is_line
 returns-then-not-is_line c =
-    sym (shape_headless c.args.text.now (sym c.is_line.ensures ∙ not-true _ c.if-not-is_line.true-raw))
+    sym (shape_headless c.args.text.now (sym c.is_line.ensures ∙ c.if-not-is_line.true))
 
 head : (c : Else-not-is_line) → is_head width c.args.text.now ≡ true
-head c = sym c.is_line.ensures ∙ not-false _ c.if-not-is_line.false-raw
+head c = sym c.is_line.ensures ∙ c.if-not-is_line.false
 
 pub overflow_sub-count : goal.overflow_sub-count
 overflow_sub-count c = omega (arith, line_inside head_code width c.args.text.now 0 (head c))
@@ -26,7 +25,7 @@ returns-then-text-count c = sym (shape_ragged c.args.text.now (λ e. omega (arit
 pub returns-then-not-vertex_frames : goal.returns-then-not-vertex_frames
 returns-then-not-vertex_frames c =
     sym (shape_mixed c.args.text.now c.triangle_frames-triangles.result c.triangle_frames-triangles.ensures
-    (sym c.vertex_frames.ensures ∙ not-true _ c.if-not-vertex_frames.true-raw))
+    (sym c.vertex_frames.ensures ∙ c.if-not-vertex_frames.true))
 
 pub overflow_sub-vertices : goal.overflow_sub-vertices
 overflow_sub-vertices c =
@@ -35,4 +34,4 @@ overflow_sub-vertices c =
 pub returns : goal.returns
 returns c =
     sym (shape_right c.args.text.now c.triangle_frames-triangles.result c.triangle_frames-triangles.ensures
-    (head (goal.at.returns c).Else-not-is_line) (omega (arith, c.if-text-count.false)) (sym c.vertex_frames.ensures ∙ not-false _ c.if-not-vertex_frames.false-raw))
+    (head (goal.at.returns c).Else-not-is_line) (omega (arith, c.if-text-count.false)) (sym c.vertex_frames.ensures ∙ c.if-not-vertex_frames.false))

@@ -12,11 +12,11 @@ loop-i-init c = (omega arith, λ j l. absurd (omega arith))
 pub returns-then-not-is_frame : goal.returns-then-not-is_frame
 returns-then-not-is_frame c =
     let a = c.args in
-    sym (first_at _ a.count c.loop-i.i c.loop-i-test.true (ap not (sym c.is_frame.ensures) ∙ c.if-not-is_frame.true-raw) c.loop-i.invariant.1)
+    sym (first_at _ a.count c.loop-i.i c.loop-i-test.true (ap not (sym c.is_frame.ensures ∙ c.if-not-is_frame.true)) c.loop-i.invariant.1)
 
 pub loop-i-preserved : goal.loop-i-preserved
 loop-i-preserved c =
-    (omega arith, below_more _ _ c.loop-i.invariant.1 (ap not (sym c.is_frame.ensures) ∙ c.if-not-is_frame.false-raw))
+    (omega arith, below_more _ _ c.loop-i.invariant.1 (ap not (sym c.is_frame.ensures ∙ c.if-not-is_frame.false)))
 
 pub returns : goal.returns
 returns c =

@@ -2,7 +2,7 @@
 use mathlib.Core.Path.{sym, ◌∙◌}
 use lib.Dec.{ltb}
 use borrow.Author.Count.{below_more}
-use borrow.Author.Tests.{not-true, not-false, lt-ltb, le-ltb}
+use borrow.Author.Tests.{lt-ltb, le-ltb}
 use Rattle.mesh.specs.Search.{every}
 use Rattle.mesh.proofs.Tests.{by_bool, clash, or_left, or_right, or_none}
 use Rattle.mesh.proofs.Search.{every_at, every_of}
@@ -20,12 +20,12 @@ returns-then-not-is_frame c =
     let i = c.loop-i.i in
     by_bool (every (placed width a.text.now a.from) a.count)
     (λ t. clash (placed width a.text.now a.from i) (every_at (placed width a.text.now a.from) a.count t i c.loop-i-test.true)
-    (or_none (ltb i a.from) _ (le-ltb i a.from c.loop-i.invariant.0) (sym c.is_frame.ensures ∙ not-true _ c.if-not-is_frame.true-raw)))
+    (or_none (ltb i a.from) _ (le-ltb i a.from c.loop-i.invariant.0) (sym c.is_frame.ensures ∙ c.if-not-is_frame.true)))
     (λ t. sym t)
 
 pub loop-i-preserved : goal.loop-i-preserved
 loop-i-preserved c =
-    (omega arith, below_more _ _ c.loop-i.invariant.1 (or_right (ltb c.loop-i.i c.args.from) _ (sym c.is_frame.ensures ∙ not-false _ c.if-not-is_frame.false-raw)))
+    (omega arith, below_more _ _ c.loop-i.invariant.1 (or_right (ltb c.loop-i.i c.args.from) _ (sym c.is_frame.ensures ∙ c.if-not-is_frame.false)))
 
 pub returns : goal.returns
 returns c =

@@ -47,25 +47,33 @@ pub slice_bounds-corners-end : goal.slice_bounds-corners-end
 slice_bounds-corners-end c = let r = right c in omega (arith, r.0)
 
 pub slice_bounds-answer_by-end : goal.slice_bounds-answer_by-end
-slice_bounds-answer_by-end c = let r = right (goal.at.slice_bounds-answer_by-end c).Else-number-ne0 in prefix_long _ (triangles_length most_vertices) unused_mark (omega (arith, r.0))
+slice_bounds-answer_by-end c =
+    let p = (goal.at.slice_bounds-answer_by-end c).Else-number-ne0 in
+    let r = right p in prefix_long _ (triangles_length most_vertices) unused_mark (omega (arith, r.0))
 
 pub slice_bounds-wood-end : goal.slice_bounds-wood-end
 slice_bounds-wood-end c = let r = right (goal.at.slice_bounds-wood-end c).Else-number-ne0 in omega (arith, r.0)
 
 pub slice_bounds-answer_by-end-2 : goal.slice_bounds-answer_by-end-2
-slice_bounds-answer_by-end-2 c = let r = right (goal.at.slice_bounds-answer_by-end-2 c).Else-number-ne0 in prefix_long _ (wood_length most_vertices) unused_mark (omega (arith, r.0))
+slice_bounds-answer_by-end-2 c =
+    let p = (goal.at.slice_bounds-answer_by-end-2 c).Else-number-ne0 in
+    let r = right p in prefix_long _ (wood_length most_vertices) unused_mark (omega (arith, r.0))
 
 pub slice_bounds-references-end : goal.slice_bounds-references-end
 slice_bounds-references-end c = let r = right (goal.at.slice_bounds-references-end c).Else-number-ne0 in omega (arith, r.0)
 
 pub slice_bounds-answer_by-end-3 : goal.slice_bounds-answer_by-end-3
-slice_bounds-answer_by-end-3 c = let r = right (goal.at.slice_bounds-answer_by-end-3 c).Else-number-ne0 in prefix_long _ (references_length most_vertices) unused_mark (omega (arith, r.0))
+slice_bounds-answer_by-end-3 c =
+    let p = (goal.at.slice_bounds-answer_by-end-3 c).Else-number-ne0 in
+    let r = right p in prefix_long _ (references_length most_vertices) unused_mark (omega (arith, r.0))
 
 pub slice_bounds-service-end : goal.slice_bounds-service-end
 slice_bounds-service-end c = let r = right (goal.at.slice_bounds-service-end c).Else-number-ne0 in omega (arith, r.0)
 
 pub slice_bounds-answer_by-end-4 : goal.slice_bounds-answer_by-end-4
-slice_bounds-answer_by-end-4 c = let r = right (goal.at.slice_bounds-answer_by-end-4 c).Else-number-ne0 in prefix_long _ (service_length most_vertices) 0 (omega (arith, r.0))
+slice_bounds-answer_by-end-4 c =
+    let p = (goal.at.slice_bounds-answer_by-end-4 c).Else-number-ne0 in
+    let r = right p in prefix_long _ (service_length most_vertices) 0 (omega (arith, r.0))
 
 pub answer_by-requires : goal.answer_by-requires
 answer_by-requires c =

@@ -56,10 +56,11 @@ returns-in-Done c =
 
 pub returns-in-Refused : goal.returns-in-Refused
 returns-in-Refused c =
+    let p = (goal.at.returns-in-Refused c).After-build-outcome in
     let a = c.args in
     let q = c.requires in
     let t = a.text.now in
     let e =
     answer_not_built a.n (triangles_in width t) (anchor_targets ++ targets_in width t) a.references.now a.service.now c.build-outcome.result
-    c.build-outcome.new.references c.build-outcome.new.service (built (goal.at.returns-in-Refused c).After-build-outcome) q.references_long q.service_long _ c.in-Refused.is in
+    c.build-outcome.new.references c.build-outcome.new.service (built p) q.references_long q.service_long _ c.in-Refused.is in
     subst (λ (f : List ℕ). Wrote f a.out.now c.put_refusal.result c.put_refusal.new.part) e c.put_refusal.ensures

@@ -24,18 +24,21 @@ overflow_sub-all c = let r = in_range c.args.n (inside c) in omega arith
 
 pub returns-then-triangles-all : goal.returns-then-triangles-all
 returns-then-triangles-all c =
+    let p = (goal.at.returns-then-triangles-all c).Else-out_of_range in
     let a = c.args in
-    sym (size_triangles a.n a.triangles a.vertices (inside (goal.at.returns-then-triangles-all c).Else-out_of_range) (λ e. c.if-triangles-all.true (omega arith)))
+    sym (size_triangles a.n a.triangles a.vertices (inside p) (λ e. c.if-triangles-all.true (omega arith)))
 
 pub overflow_sub-inner : goal.overflow_sub-inner
 overflow_sub-inner c = let r = in_range c.args.n (inside (goal.at.overflow_sub-inner c).Else-out_of_range) in omega arith
 
 pub returns-then-vertices-inner : goal.returns-then-vertices-inner
 returns-then-vertices-inner c =
+    let p = (goal.at.returns-then-vertices-inner c).Else-out_of_range in
     let a = c.args in
-    sym (size_vertices a.n a.triangles a.vertices (inside (goal.at.returns-then-vertices-inner c).Else-out_of_range) (λ e. c.if-vertices-inner.true (omega arith)))
+    sym (size_vertices a.n a.triangles a.vertices (inside p) (λ e. c.if-vertices-inner.true (omega arith)))
 
 pub returns : goal.returns
 returns c =
+    let p = (goal.at.returns c).Else-out_of_range in
     let a = c.args in
-    sym (size_right a.n a.triangles a.vertices (inside (goal.at.returns c).Else-out_of_range) (omega (arith, c.if-triangles-all.false)) (omega (arith, c.if-vertices-inner.false)))
+    sym (size_right a.n a.triangles a.vertices (inside p) (omega (arith, c.if-triangles-all.false)) (omega (arith, c.if-vertices-inner.false)))

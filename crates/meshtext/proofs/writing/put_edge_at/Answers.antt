@@ -5,7 +5,6 @@ use mathlib.Core.List.{List}
 use lib.ListN.{length, take, drop}
 use borrow.Rule.Slice.PartMut.{put_mid}
 use Rattle.frames.specs.declared.part.Put.TheVariants.{Done}
-use borrow.Author.Tests.{not-true, not-false}
 use Rattle.frames.specs.Frames.{width, edge_line}
 use Rattle.frames.specs.Lines.{edge_length}
 use Rattle.frames.specs.Put.{Wrote, Stored}
@@ -22,7 +21,7 @@ framed : (d : After-put_edge-put) →
     Wrote (edge_line width a.references.now a.service.now a.j) (take (length a.out.now - a.at) (drop a.at a.out.now)) d.put_edge-put.result d.put_edge-put.new.part
 framed d =
     let a = d.args in
-    let u = sym d.used.ensures ∙ not-false _ d.if-not-used.false-raw in
+    let u = sym d.used.ensures ∙ d.if-not-used.false in
     let e = line_used a.references.now a.service.now a.j u d.requires.1 d.requires.2 in
     subst (λ (f : List ℕ). Wrote f (take (length a.out.now - a.at) (drop a.at a.out.now)) d.put_edge-put.result d.put_edge-put.new.part) e d.put_edge-put.ensures
 
@@ -39,7 +38,7 @@ written d k e =
 pub returns-then-not-used : goal.returns-then-not-used
 returns-then-not-used c =
     let a = c.args in
-    let e = line_unused a.references.now a.service.now a.j (sym c.used.ensures ∙ not-true _ c.if-not-used.true-raw) in
+    let e = line_unused a.references.now a.service.now a.j (sym c.used.ensures ∙ c.if-not-used.true) in
     stored_wider 0 (edge_length width) _ a.at a.at a.out.now a.out.now (omega arith) (stored_as 0 _ _ a.at a.at a.out.now a.out.now e (stored_none a.at a.out.now))
 
 pub overflow_add-result : goal.overflow_add-result

@@ -35,22 +35,26 @@ lengths c =
 pub returns-then-outer-ne0 : goal.returns-then-outer-ne0
 unfolding read_back
 returns-then-outer-ne0 c =
+    let p = (goal.at.returns-then-outer-ne0 c).Else-number-ne0 in
     let a = c.args in
-    back_outer (hand_at a.hand) a.n (fronts_in a.references.now) (bytes_in a.service.now) a.j _ c.outer_back-outer.ensures c.if-outer-ne0.true ∙ answers refused _ 14 _ _ _ (passed (goal.at.returns-then-outer-ne0 c).Else-number-ne0)
+    back_outer (hand_at a.hand) a.n (fronts_in a.references.now) (bytes_in a.service.now) a.j _ c.outer_back-outer.ensures c.if-outer-ne0.true ∙ answers refused _ 14 _ _ _ (passed p)
 
 pub byte_at-requires : goal.byte_at-requires
 byte_at-requires c =
+    let p = (goal.at.byte_at-requires c).Else-number-ne0 in
     let a = c.args in
-    omega (arith, (lengths (goal.at.byte_at-requires c).Else-number-ne0).1, edge_bound a.n a.j (passed (goal.at.byte_at-requires c).Else-number-ne0).is_known)
+    omega (arith, (lengths p).1, edge_bound a.n a.j (passed p).is_known)
 
 pub inner_back-requires : goal.inner_back-requires
 inner_back-requires c =
-    ((passed (goal.at.inner_back-requires c).Else-number-ne0).range.not_too_many, (lengths (goal.at.inner_back-requires c).Else-number-ne0).0, c.requires, edge_bound c.args.n c.args.j (passed (goal.at.inner_back-requires c).Else-number-ne0).is_known)
+    let p = (goal.at.inner_back-requires c).Else-number-ne0 in
+    ((passed p).range.not_too_many, (lengths p).0, c.requires, edge_bound c.args.n c.args.j (passed p).is_known)
 
 pub returns : goal.returns
 unfolding read_back
 returns c =
+    let p = (goal.at.returns c).Else-number-ne0 in
     let a = c.args in
     c.inner_back.ensures ∙
     back_inner (hand_at a.hand) a.n (fronts_in a.references.now) (bytes_in a.service.now) a.j _ _ c.outer_back-outer.ensures c.if-outer-ne0.false c.byte_at.ensures ∙
-    answers refused _ 14 _ _ _ (passed (goal.at.returns c).Else-number-ne0)
+    answers refused _ 14 _ _ _ (passed p)

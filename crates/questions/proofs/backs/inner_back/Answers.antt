@@ -1,7 +1,6 @@
 -- `inner_back` goes by the service byte: too high is torn, its bit set is the source's next edge, clear is by the Front.
 use Prim.Native.Nat.{ℕ, ◌+◌, ◌%◌}
 use mathlib.Core.Path.{sym, ap, ◌∙◌}
-use borrow.Author.Tests.{not-true, not-false}
 use Rattle.mesh.specs.Wood.{source, colour, edge_of}
 use Rattle.mesh.specs.Array.{hand_at}
 use Rattle.mesh.specs.Reading.{fronts_in, edge_answer}
@@ -23,15 +22,15 @@ pub returns-then-not-is_edge : goal.returns-then-not-is_edge
 returns-then-not-is_edge c =
     let a = c.args in
     sym (inner_astray (hand_at a.hand) a.n (fronts_in a.references.now) a.byte a.j c.if-byte-gt-MOST_SERVICE.false
-    (λ z. c.if-bit-eq1.false (c.bit.ensures ∙ z)) _ c.front_at-f.ensures (sym c.is_edge.ensures ∙ not-true _ c.if-not-is_edge.true-raw))
+    (λ z. c.if-bit-eq1.false (c.bit.ensures ∙ z)) _ c.front_at-f.ensures (sym c.is_edge.ensures ∙ c.if-not-is_edge.true))
 
 pub back_by_front-requires : goal.back_by_front-requires
 back_by_front-requires c =
-    (c.requires.0, c.requires.1, c.requires.2, edge_bound _ _ (sym c.is_edge.ensures ∙ not-false _ c.if-not-is_edge.false-raw))
+    (c.requires.0, c.requires.1, c.requires.2, edge_bound _ _ (sym c.is_edge.ensures ∙ c.if-not-is_edge.false))
 
 pub returns : goal.returns
 returns c =
     let a = c.args in
     c.back_by_front.ensures ∙
     sym (inner_front (hand_at a.hand) a.n (fronts_in a.references.now) a.byte a.j c.if-byte-gt-MOST_SERVICE.false
-    (λ z. c.if-bit-eq1.false (c.bit.ensures ∙ z)) _ c.front_at-f.ensures (sym c.is_edge.ensures ∙ not-false _ c.if-not-is_edge.false-raw))
+    (λ z. c.if-bit-eq1.false (c.bit.ensures ∙ z)) _ c.front_at-f.ensures (sym c.is_edge.ensures ∙ c.if-not-is_edge.false))

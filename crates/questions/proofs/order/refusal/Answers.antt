@@ -17,12 +17,12 @@ sized c = sym c.out_of_range.ensures ∙ c.if-out_of_range.false
 
 pub returns-then-not-fits : goal.returns-then-not-fits
 unfolding refusal_of first_of
-returns-then-not-fits c = rw (sized (goal.at.returns-then-not-fits c).Else-out_of_range, c.if-not-fits.true-raw)
+returns-then-not-fits c = rw (sized (goal.at.returns-then-not-fits c).Else-out_of_range, c.if-not-fits.true)
 
 pub returns-then-not-known : goal.returns-then-not-known
 unfolding refusal_of first_of
-returns-then-not-known c = rw (sized (goal.at.returns-then-not-known c).Else-out_of_range, c.if-not-fits.false-raw, c.if-not-known.true-raw)
+returns-then-not-known c = rw (sized (goal.at.returns-then-not-known c).Else-out_of_range, c.if-not-fits.false, c.if-not-known.true)
 
 pub returns : goal.returns
 unfolding refusal_of first_of
-returns c = rw (sized (goal.at.returns c).Else-out_of_range, c.if-not-fits.false-raw, c.if-not-known.false-raw)
+returns c = rw (sized (goal.at.returns c).Else-out_of_range, c.if-not-fits.false, c.if-not-known.false)

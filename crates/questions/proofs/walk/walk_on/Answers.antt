@@ -3,7 +3,6 @@
 use Prim.Native.Nat.{ℕ, ◌+◌, ◌%◌, ◌-◌}
 use mathlib.Core.Path.{◌≡◌, refl, sym, ap, ◌∙◌}
 use native.Mathlib.Omega.{arith}
-use borrow.Author.Tests.{not-true, not-false}
 use Rattle.mesh.specs.Wood.{is_edge}
 use Rattle.mesh.specs.Reading.{go_on, fronts_in, stop_at, walk, target_answer}
 use Rattle.mesh.proofs.Walk.{edge_bound, walk_at_vertex, walk_torn, walk_spent, walk_astray, walk_goes_on}
@@ -40,19 +39,21 @@ returns-then-more-eq0 c =
 
 pub returns-then-not-is_edge : goal.returns-then-not-is_edge
 returns-then-not-is_edge c =
+    let p = (goal.at.returns-then-not-is_edge c).In-GoOn in
     let a = c.args in
-    sym (c.loop-vertex.invariant.2 ∙ walk_astray a.n (fronts_in a.references.now) (a.j % 3) c.loop-vertex.e c.loop-vertex.reads (goes (goal.at.returns-then-not-is_edge c).In-GoOn) c.loop-vertex.more
-    (ap (is_edge a.n) (sym c.front_at-f.ensures) ∙ sym c.is_edge.ensures ∙ not-true _ c.if-not-is_edge.true-raw))
+    sym (c.loop-vertex.invariant.2 ∙ walk_astray a.n (fronts_in a.references.now) (a.j % 3) c.loop-vertex.e c.loop-vertex.reads (goes p) c.loop-vertex.more
+    (ap (is_edge a.n) (sym c.front_at-f.ensures) ∙ sym c.is_edge.ensures ∙ c.if-not-is_edge.true))
 
 pub loop-vertex-preserved : goal.loop-vertex-preserved
 loop-vertex-preserved c =
+    let p = (goal.at.loop-vertex-preserved c).In-GoOn in
     let a = c.args in
     let fronts = fronts_in a.references.now in
     let same = c.front_at-f.ensures in
-    let u = sym c.is_edge.ensures ∙ not-false _ c.if-not-is_edge.false-raw in (
+    let u = sym c.is_edge.ensures ∙ c.if-not-is_edge.false in (
       edge_bound _ _ u,
       omega arith,
       c.loop-vertex.invariant.2 ∙
-          walk_goes_on a.n fronts (a.j % 3) c.loop-vertex.e c.loop-vertex.reads (goes (goal.at.loop-vertex-preserved c).In-GoOn) c.loop-vertex.more (omega arith) (ap (is_edge a.n) (sym same) ∙ u) ∙
+          walk_goes_on a.n fronts (a.j % 3) c.loop-vertex.e c.loop-vertex.reads (goes p) c.loop-vertex.more (omega arith) (ap (is_edge a.n) (sym same) ∙ u) ∙
           ap (λ (g : ℕ). walk a.n fronts (a.j % 3) (c.loop-vertex.more - 1) g (c.loop-vertex.reads + 1)) (sym same),
     )

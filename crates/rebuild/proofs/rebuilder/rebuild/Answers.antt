@@ -2,7 +2,7 @@
 use mathlib.Core.Path.{◌≡◌, refl, sym, ◌∙◌}
 use mathlib.Core.Bool.{false}
 use native.Mathlib.Omega.{arith}
-use borrow.Author.Tests.{not-true, not-false, eqb-false}
+use borrow.Author.Tests.{eqb-false}
 use Rattle.mesh.specs.Limits.{out_of_range}
 use Rattle.mesh.proofs.Limits.{in_range}
 use Rattle.rebuild.specs.Decode.{RightSizes}
@@ -36,9 +36,10 @@ overflow_mul-n c = omega (arith, in_range _ (in_bounds c))
 pub returns-then-not-references-n : goal.returns-then-not-references-n
 unfolding rebuild_lengths
 returns-then-not-references-n c =
+    let p = (goal.at.returns-then-not-references-n c).Else-out_of_range in
     let a = c.args in
     rebuild_kept a.n a.references.now a.wood.now a.triangles.now 2
-    (number_2 a.n a.references.now a.wood.now a.triangles.now (in_bounds (goal.at.returns-then-not-references-n c).Else-out_of_range) (not-true _ c.if-not-references-n.true-raw)) (eqb-false 2 0 refl) (omega arith)
+    (number_2 a.n a.references.now a.wood.now a.triangles.now (in_bounds p) c.if-not-references-n.true) (eqb-false 2 0 refl) (omega arith)
 
 -- past both tests the sizes are right
 right : (c : Else-not-references-n)
@@ -47,18 +48,20 @@ right : (c : Else-not-references-n)
 unfolding rebuild_lengths
 right c =
     let a = c.args in
-    right_sizes a.n a.references.now a.wood.now a.triangles.now (sym c.out_of_range.ensures ∙ c.if-out_of_range.false) (not-false _ c.if-not-references-n.false-raw)
+    right_sizes a.n a.references.now a.wood.now a.triangles.now (sym c.out_of_range.ensures ∙ c.if-out_of_range.false) c.if-not-references-n.false
 
 pub decode_mesh-requires : goal.decode_mesh-requires
 decode_mesh-requires c = right (goal.at.decode_mesh-requires c).Else-not-references-n
 
 pub returns-then-decode_mesh : goal.returns-then-decode_mesh
 returns-then-decode_mesh c =
+    let p = (goal.at.returns-then-decode_mesh c).Else-not-references-n in
     let a = c.args in
-    rebuild_done a.n a.references.now a.wood.now a.triangles.now (right (goal.at.returns-then-decode_mesh c).Else-not-references-n) c.decode_mesh.result _ _ c.decode_mesh.ensures c.if-decode_mesh.true
+    rebuild_done a.n a.references.now a.wood.now a.triangles.now (right p) c.decode_mesh.result _ _ c.decode_mesh.ensures c.if-decode_mesh.true
 
 pub returns : goal.returns
 returns c =
+    let p = (goal.at.returns c).Else-not-references-n in
     let a = c.args in
-    rebuild_marked a.n a.references.now a.wood.now a.triangles.now (right (goal.at.returns c).Else-not-references-n) c.decode_mesh.result _ _ c.decode_mesh.ensures _ _ c.if-decode_mesh.false
+    rebuild_marked a.n a.references.now a.wood.now a.triangles.now (right p) c.decode_mesh.result _ _ c.decode_mesh.ensures _ _ c.if-decode_mesh.false
     c.decode_mesh.auto.wood c.decode_mesh.auto.triangles c.mark_all.ensures c.mark_all-2.ensures

@@ -14,7 +14,11 @@ told c =
     ap vertex_of c.target-answer.ensures ∙ target_decoded a.n a.references.now a.j c.requires.0 c.requires.1 c.requires.2
 
 pub returns-in-Reached : goal.returns-in-Reached
-returns-in-Reached c = sym (ap (λ (r : TargetAnswer). vertex_of (target_listed r)) c.in-Reached.is) ∙ told (goal.at.returns-in-Reached c).After-target-answer
+returns-in-Reached c =
+    let p = (goal.at.returns-in-Reached c).After-target-answer in
+    sym (ap (λ (r : TargetAnswer). vertex_of (target_listed r)) c.in-Reached.is) ∙ told p
 
 pub returns-in_default : goal.returns-in_default
-returns-in_default c = sym (ap (λ (r : TargetAnswer). vertex_of (target_listed r)) c.in_default.is) ∙ told (goal.at.returns-in_default c).After-target-answer
+returns-in_default c =
+    let p = (goal.at.returns-in_default c).After-target-answer in
+    sym (ap (λ (r : TargetAnswer). vertex_of (target_listed r)) c.in_default.is) ∙ told p

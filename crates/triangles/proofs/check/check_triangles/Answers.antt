@@ -30,18 +30,20 @@ overflow_sub-corners c = let r = in_range _ (few c) in omega arith
 
 pub returns-then-triangles-corners : goal.returns-then-triangles-corners
 returns-then-triangles-corners c =
+    let p = (goal.at.returns-then-triangles-corners c).Else-out_of_range in
     let a = c.args in
-    ends_alone a.n a.triangles.now a.twins.now 2 (says_2_triangles a.n a.triangles.now a.twins.now (few (goal.at.returns-then-triangles-corners c).Else-out_of_range) c.if-triangles-corners.true) _ refl
+    ends_alone a.n a.triangles.now a.twins.now 2 (says_2_triangles a.n a.triangles.now a.twins.now (few p) c.if-triangles-corners.true) _ refl
     (λ z. omega arith) (omega arith)
 
 pub returns-then-twins-corners : goal.returns-then-twins-corners
 returns-then-twins-corners c =
+    let p = (goal.at.returns-then-twins-corners c).Else-out_of_range in
     let a = c.args in
-    ends_alone a.n a.triangles.now a.twins.now 2 (says_2_twins a.n a.triangles.now a.twins.now (few (goal.at.returns-then-twins-corners c).Else-out_of_range) c.if-twins-corners.true) _ refl
+    ends_alone a.n a.triangles.now a.twins.now 2 (says_2_twins a.n a.triangles.now a.twins.now (few p) c.if-twins-corners.true) _ refl
     (λ z. omega arith) (omega arith)
 
 right : (c : Else-twins-corners) → RightSizes c.args.n c.args.triangles.now c.args.twins.now
-right c = record { range = in_range _ ((sym c.out_of_range.ensures ∙ c.if-out_of_range.false)); triangles_length_holds = omega arith; twins_length = omega arith }
+right c = record { range = in_range _ (sym c.out_of_range.ensures ∙ c.if-out_of_range.false); triangles_length_holds = omega arith; twins_length = omega arith }
 
 pub table_verdict-fault-requires : goal.table_verdict-fault-requires
 table_verdict-fault-requires c = right (goal.at.table_verdict-fault-requires c).Else-twins-corners

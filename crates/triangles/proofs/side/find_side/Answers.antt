@@ -17,17 +17,18 @@ triangles-init c = (omega arith, λ j h. absurd (omega arith))
 pub loop-k-init : goal.loop-k-init
 loop-k-init c = (omega arith, λ j h. c.triangles.invariant.1 j (omega arith))
 
-from_here : (c : After-corner) → c.corner.result ≡ from (c.args.ts.now) ((3 * c.triangles.t + c.loop-k.k))
+from_here : (c : After-corner) → c.corner.result ≡ from c.args.ts.now (3 * c.triangles.t + c.loop-k.k)
 from_here c =
-    corner_is (c.args.ts.now) _ _ c.triangle_at-tri.ensures c.loop-k.k ((3 * c.triangles.t + c.loop-k.k)) _ (omega arith) c.corner.ensures
+    corner_is c.args.ts.now _ _ c.triangle_at-tri.ensures c.loop-k.k (3 * c.triangles.t + c.loop-k.k) _ (omega arith) c.corner.ensures
 
 to_here : (c : After-after)
-    → c.after.result ≡ to (c.args.ts.now) ((3 * c.triangles.t + c.loop-k.k))
+    → c.after.result ≡ to c.args.ts.now (3 * c.triangles.t + c.loop-k.k)
 to_here c =
-    after_is (c.args.ts.now) _ _ c.triangle_at-tri.ensures c.loop-k.k ((3 * c.triangles.t + c.loop-k.k)) _ (omega arith) c.after.ensures
+    after_is c.args.ts.now _ _ c.triangle_at-tri.ensures c.loop-k.k (3 * c.triangles.t + c.loop-k.k) _ (omega arith) c.after.ensures
 
 pub loop-k-preserved : goal.loop-k-preserved
 loop-k-preserved c =
+    let here = (goal.at.loop-k-preserved c).After-corner in
     let ts = c.args.ts.now in
     let p = 3 * c.triangles.t + c.loop-k.k in (
       omega arith,
@@ -35,7 +36,7 @@ loop-k-preserved c =
           (elim c.if-corner-a.branch [
             | then-corner-a+else-after-b w ↦
                 not_to ts c.args.a c.args.b p _ (after_is ts _ _ c.triangle_at-tri.ensures c.loop-k.k p _ (omega arith) w.after.ensures) w.if-after-b.false
-            | else-corner-a w ↦ not_from ts c.args.a c.args.b p _ (from_here (goal.at.loop-k-preserved c).After-corner) w.if-corner-a.false
+            | else-corner-a w ↦ not_from ts c.args.a c.args.b p _ (from_here here) w.if-corner-a.false
           ]) j (omega arith),
     )
 
@@ -51,7 +52,8 @@ returns-then-m-t c =
 pub returns-then-after-b : goal.returns-then-after-b
 unfolding side_at
 returns-then-after-b c =
+    let p = goal.at.returns-then-after-b c in
     let s = c.args in
-    found (is_side (c.args.ts.now) s.a s.b) (length (c.args.ts.now)) ((3 * c.triangles.t + c.loop-k.k)) c.loop-k.invariant.1 (omega arith)
-    (is_side_of (c.args.ts.now) s.a s.b ((3 * c.triangles.t + c.loop-k.k)) (sym (from_here (goal.at.returns-then-after-b c).After-corner) ∙ c.if-corner-a.true)
-    (sym (to_here (goal.at.returns-then-after-b c).After-after) ∙ c.if-after-b.true))
+    found (is_side c.args.ts.now s.a s.b) (length c.args.ts.now) (3 * c.triangles.t + c.loop-k.k) c.loop-k.invariant.1 (omega arith)
+    (is_side_of c.args.ts.now s.a s.b (3 * c.triangles.t + c.loop-k.k) (sym (from_here p.After-corner) ∙ c.if-corner-a.true)
+    (sym (to_here p.After-after) ∙ c.if-after-b.true))

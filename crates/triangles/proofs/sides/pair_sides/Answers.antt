@@ -39,22 +39,24 @@ shape_of-twins-then-ts-q c = c.loop-p.invariant.1
 
 pub returns-then-ts-q : goal.returns-then-ts-q
 returns-then-ts-q c =
+    let p = (goal.at.returns-then-ts-q c).After-find_side-q in
     let ts = c.args.ts.now in
     record {
-      position = found (reverse_fault ts) (length ts) c.loop-p.p c.loop-p.invariant.3 (omega arith) (tells (goal.at.returns-then-ts-q c).After-find_side-q ∙ le-leb _ _ c.if-ts-q.true);
+      position = found (reverse_fault ts) (length ts) c.loop-p.p c.loop-p.invariant.3 (omega arith) (tells p ∙ le-leb _ _ c.if-ts-q.true);
       reverses = λ z. absurd (omega arith);
     }
 
 pub loop-p-preserved : goal.loop-p-preserved
 loop-p-preserved c =
+    let here = (goal.at.loop-p-preserved c).After-find_side-q in
     let a = c.args in
     let ts = a.ts.now in
     let p = c.loop-p.p in
-    let t = ap₂ (λ (l : List ℕ) (x : ℕ). set l p x) c.loop-p.invariant.2 (reverse (goal.at.loop-p-preserved c).After-find_side-q) ∙ painted_more (twin ts) p a.twins.now in (
+    let t = ap₂ (λ (l : List ℕ) (x : ℕ). set l p x) c.loop-p.invariant.2 (reverse here) ∙ painted_more (twin ts) p a.twins.now in (
       omega arith,
       ap length t ∙ length_painted _ _ _,
       t,
-      below_more _ p c.loop-p.invariant.3 (tells (goal.at.loop-p-preserved c).After-find_side-q ∙ lt-leb _ _ c.if-ts-q.false),
+      below_more _ p c.loop-p.invariant.3 (tells here ∙ lt-leb _ _ c.if-ts-q.false),
     )
 
 pub shape_of-twins : goal.shape_of-twins

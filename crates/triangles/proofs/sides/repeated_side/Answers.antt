@@ -25,12 +25,14 @@ tells c =
 
 pub returns-then-find_side-p : goal.returns-then-find_side-p
 returns-then-find_side-p c =
+    let p = (goal.at.returns-then-find_side-p c).After-find_side in
     let ts = c.args.ts.now in
-    found (repeat_fault ts) (length ts) c.loop-p.p c.loop-p.invariant.1 (omega arith) (tells (goal.at.returns-then-find_side-p c).After-find_side ∙ lt-ltb _ _ c.if-find_side-p.true)
+    found (repeat_fault ts) (length ts) c.loop-p.p c.loop-p.invariant.1 (omega arith) (tells p ∙ lt-ltb _ _ c.if-find_side-p.true)
 
 pub loop-p-preserved : goal.loop-p-preserved
 loop-p-preserved c =
-    (omega arith, below_more _ c.loop-p.p c.loop-p.invariant.1 (tells (goal.at.loop-p-preserved c).After-find_side ∙ le-ltb _ _ c.if-find_side-p.false))
+    let p = (goal.at.loop-p-preserved c).After-find_side in
+    (omega arith, below_more _ c.loop-p.p c.loop-p.invariant.1 (tells p ∙ le-ltb _ _ c.if-find_side-p.false))
 
 pub returns : goal.returns
 returns c =

@@ -1,7 +1,7 @@
 -- `colour_broken` is a search over the inner vertices that keeps its marks right: each vertex that it has passed ends at the anchor.
-use mathlib.Core.Path.{refl, sym, ◌∙◌}
+use mathlib.Core.Path.{refl, sym, ap, ◌∙◌}
+use mathlib.Core.Bool.{not}
 use borrow.Author.Count.{below_more}
-use borrow.Author.Tests.{not-false}
 use Rattle.mesh.proofs.Search.{some_of, none_some}
 use Rattle.wood.specs.Paths.{colour_fault}
 use Rattle.wood.proofs.PathLaws.{none_marked, colour_anchor, colour_found, colour_passed}
@@ -22,7 +22,7 @@ returns-then-not-path_ends c =
     let a = c.args in
     let w = c.path_ends in
     sym (some_of (colour_fault a.n a.ws.now a.c) a.n c.loop-v.v (omega arith)
-    (colour_found a.n a.ws.now a.c c.loop-v.v c.loop-v.invariant.0 w.result _ w.ensures c.if-not-path_ends.true-raw))
+    (colour_found a.n a.ws.now a.c c.loop-v.v c.loop-v.invariant.0 w.result _ w.ensures (ap not c.if-not-path_ends.true)))
 
 pub loop-v-preserved : goal.loop-v-preserved
 loop-v-preserved c =
@@ -31,9 +31,9 @@ loop-v-preserved c =
       omega arith,
       omega arith,
       w.auto.marks ∙ c.loop-v.invariant.2,
-      w.ensures.marked (not-false w.result c.if-not-path_ends.false-raw),
+      w.ensures.marked c.if-not-path_ends.false,
       below_more _ _ c.loop-v.invariant.4
-          (colour_passed a.n a.ws.now a.c c.loop-v.v c.loop-v.invariant.0 w.result _ w.ensures c.if-not-path_ends.false-raw),
+          (colour_passed a.n a.ws.now a.c c.loop-v.v c.loop-v.invariant.0 w.result _ w.ensures (ap not c.if-not-path_ends.false)),
     )
 
 pub returns : goal.returns

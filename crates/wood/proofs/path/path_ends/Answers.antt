@@ -24,14 +24,13 @@ shape_of-marks-then-mark c = c.loop-steps.invariant.1
 
 pub returns-then-mark : goal.returns-then-mark
 returns-then-mark c =
-    let s = c in
-    let a = s.args in
+    let a = c.args in
     let l = c.loop-steps in
-    walk_meets a.n a.ws.now a.c a.v s.requires.0 s.requires.1 s.requires.2 l.steps l.u l.marks l.invariant.0
+    walk_meets a.n a.ws.now a.c a.v c.requires.0 c.requires.1 c.requires.2 l.steps l.u l.marks l.invariant.0
     c.at-mark.result c.at-mark.ensures c.if-mark.true c.if-u-lt3.false
 
 pub overflow_cast-marks : goal.overflow_cast-marks
-overflow_cast-marks c = let s = c in omega (arith, s.requires.0.range.not_too_many, s.requires.2)
+overflow_cast-marks c = omega (arith, c.requires.0.range.not_too_many, c.requires.2)
 
 pub bounds-marks-u : goal.bounds-marks-u
 bounds-marks-u c = let w = c.loop-steps.invariant.0 in omega (arith, w.room, w.inside)
@@ -42,15 +41,13 @@ overflow_mul-u c =
 
 pub overflow_add-u : goal.overflow_add-u
 overflow_add-u c =
-    let s = c in
-    omega (arith, c.loop-steps.invariant.0.inside, s.requires.0.range.not_too_many, s.requires.1)
+    omega (arith, c.loop-steps.invariant.0.inside, c.requires.0.range.not_too_many, c.requires.1)
 
 pub loop-steps-preserved : goal.loop-steps-preserved
 loop-steps-preserved c =
-    let s = c in
-    let a = s.args in
+    let a = c.args in
     let l = c.loop-steps in (
-      walk_goes_on a.n a.ws.now a.c a.v s.requires.0 s.requires.1 s.requires.2 l.steps l.u l.marks l.invariant.0 c.at-u.result
+      walk_goes_on a.n a.ws.now a.c a.v c.requires.0 c.requires.1 c.requires.2 l.steps l.u l.marks l.invariant.0 c.at-u.result
           c.loop-steps-test.true c.if-u-lt3.false c.at-u.ensures,
       simp length-set l.invariant.1,
     )

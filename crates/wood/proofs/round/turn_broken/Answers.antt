@@ -1,4 +1,6 @@
 -- `turn_broken` makes one turn for each sector, from the side of the vertex's edge of colour 0.
+use mathlib.Core.Path.{ap}
+use mathlib.Core.Bool.{not}
 use borrow.Author.Count.{below_more}
 use Rattle.wood.proofs.VertexLaws.{start_in, sector_kept, turn_breaks, turn_fine}
 use native.Mathlib.Omega.{arith}
@@ -23,13 +25,13 @@ pub returns-then-not-sector_holds : goal.returns-then-not-sector_holds
 returns-then-not-sector_holds c =
     let a = c.args in
     turn_breaks a.n a.ts.now a.ws.now a.twins.now a.positions.now c.requires.0 a.v _ c.requires.1 c.requires.2 c.at-start.ensures
-    c.loop-c.c c.sector_holds.result (omega arith) c.sector_holds.ensures c.if-not-sector_holds.true-raw
+    c.loop-c.c c.sector_holds.result (omega arith) c.sector_holds.ensures (ap not c.if-not-sector_holds.true)
 
 pub loop-c-preserved : goal.loop-c-preserved
 loop-c-preserved c =
     let a = c.args in
     let w = c.sector_holds in
-    (omega arith, below_more _ _ c.loop-c.invariant.1 (sector_kept a.n _ a.ws.now _ _ c.loop-c.c w.result w.ensures c.if-not-sector_holds.false-raw))
+    (omega arith, below_more _ _ c.loop-c.invariant.1 (sector_kept a.n _ a.ws.now _ _ c.loop-c.c w.result w.ensures (ap not c.if-not-sector_holds.false)))
 
 pub returns : goal.returns
 returns c =
