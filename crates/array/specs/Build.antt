@@ -4,9 +4,10 @@ use Rattle.mesh.specs.Limits.{triangles_length, wood_length, references_length, 
 use Rattle.mesh.specs.Ladder.{first_of}
 use Rattle.mesh.specs.Verdict.{sized, mesh_ladder}
 use Rattle.mesh.specs.Array.{references_of, service_of}
-use Rattle.tables.specs.declared.outcome.Outcome.{Outcome}
-use Rattle.tables.specs.declared.outcome.Outcome.TheVariants.{Done, Refused}
-use Rattle.tables.specs.Outcome.{outcome}
+use Rattle.std.specs.declared.result.Result.{Result}
+use Rattle.std.specs.Bool.{⊤}
+use Rattle.tables.specs.declared.refusal.Refusal.{Refusal}
+use Rattle.tables.specs.Refusal.{number_met}
 
 -- tables so long have exactly the lengths that n asks
 unfoldable pub lengths_fit : ℕ → ℕ → ℕ → ℕ → ℕ → Bool
@@ -22,12 +23,7 @@ unfoldable pub build_says : ℕ → List ℕ → List ℕ → List ℕ → List 
 build_says n ts ws refs service = first_of (sized n (not (build_lengths n ts ws refs service)) (mesh_ladder n ts ws))
 
 -- a refused build changes neither output
-pub record Build (n : ℕ) (ts ws refs service : List ℕ) (r : Outcome) (refs' service' : List ℕ) : Type 0 where
-  pub answer : r ≡ outcome (build_says n ts ws refs service)
+pub record Build (n : ℕ) (ts ws refs service : List ℕ) (r : Result ⊤ Refusal) (refs' service' : List ℕ) : Type 0 where
+  pub answer : number_met r ≡ build_says n ts ws refs service
   pub references : refs' ≡ cond (eqb (build_says n ts ws refs service) 0) (references_of n ts ws) refs
   pub service_bytes : service' ≡ cond (eqb (build_says n ts ws refs service) 0) (service_of n ts ws) service
-
--- the number that an outcome carries; 0 where the call was done
-abbrev pub number_of : Outcome → ℕ
-number_of Done = 0
-number_of (Refused k) = k

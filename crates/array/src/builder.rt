@@ -1,57 +1,24 @@
 // A build: the sizes, the check, then the references and the service bytes.
-ghost use Rattle.std.specs.Prelude.{◌≡◌, not};
-ghost use Rattle.mesh.specs.Limits.{InRange};
-ghost use Rattle.array.specs.Build.{lengths_fit, Build, number_of};
-ghost use Rattle.array.specs.Fill.{Room, Checked};
+ghost use Rattle.std.specs.Prelude.{◌≡◌};
+ghost use Rattle.array.specs.Build.{lengths_fit, Build};
 
-use crate::fill::{fill_references, fill_service};
-use tables::limits::{MOST_CORNERS, MOST_EDGES, UNUSED, out_of_range};
-use tables::outcome::Outcome;
+use crate::accepted::Accepted;
+use tables::limits::{MOST_CORNERS, MOST_EDGES, UNUSED};
+use tables::refusal::{Refusal, refuse_if};
+use tables::sided::Sided;
+use tables::size::Size;
 use wood::check_mesh;
 
-// Number 2, by the lengths of the four tables.
-fn wrong_lengths(n: usize, triangles: usize, wood: usize, references: usize, service: usize) -> bool
-    requires { InRange n }
-    ensures { result ≡ not (lengths_fit n triangles wood references service) }
+// The lengths of the four tables are those that n asks. Each call that tests lengths has other tables: a test of two lists of lengths
+// would say less of them and save nothing.
+#[tactic(auto, unfolding(crate::specs::Build::lengths_fit))]
+fn lengths_fit(size: Size, triangles: usize, wood: usize, references: usize, service: usize) -> bool
+    ensures { result ≡ lengths_fit size.vertices triangles wood references service }
 {
-    if triangles != 6 * n - 12 {
-        return true;
-    }
-    if wood != 3 * n {
-        return true;
-    }
-    if references != 6 * n {
-        return true;
-    }
-    service != 3 * n
-}
-
-// The number of a check's end; 0 where it was done.
-fn number(checked: Outcome) -> u8
-    ensures { result ≡ number_of checked }
-{
-    if let Outcome::Refused(fault) = checked {
-        fault
-    } else {
-        0
-    }
-}
-
-// Numbers 3 to 13; 0 where the mesh is accepted, and then the fronts of both tables hold what the fillers read.
-fn check(n: usize, triangles: &[u16], wood: &[u16], twins: &mut [u16], positions: &mut [u16]) -> u8
-    requires { Room n triangles.now wood.now twins.old positions.old }
-    ensures { Checked n triangles.now wood.now result twins.new positions.new }
-{
-    let corners = triangles.len();
-    let edges = wood.len();
-    let checked = check_mesh(
-        n,
-        triangles,
-        wood,
-        &mut twins[..corners],
-        &mut positions[..edges],
-    );
-    number(checked)
+    triangles == size.corners()
+        && wood == size.edges()
+        && references == size.references()
+        && service == size.edges()
 }
 
 // The array of the mesh with these triangles and this wood. A refusal changes neither output.
@@ -61,28 +28,33 @@ pub fn build(
     wood: &[u16],
     references: &mut [u16],
     service: &mut [u8],
-) -> Outcome
+) -> Result<(), Refusal>
     ensures { Build n triangles.now wood.now references.old service.old result references.new service.new }
 {
-    if out_of_range(n) {
-        return Outcome::Refused(1);
-    }
-    if wrong_lengths(
-        n,
+    let size = Size::of(n)?;
+    let fit = lengths_fit(
+        size,
         triangles.len(),
         wood.len(),
         references.len(),
         service.len(),
-    ) {
-        return Outcome::Refused(2);
-    }
+    );
+    refuse_if(!fit, Refusal::Length)?;
     let mut twins = [UNUSED; MOST_CORNERS];
     let mut positions = [UNUSED; MOST_EDGES];
-    let fault = check(n, triangles, wood, &mut twins, &mut positions);
-    if fault > 0 {
-        return Outcome::Refused(fault);
-    }
-    fill_references(n, triangles, wood, &twins, &positions, references);
-    fill_service(n, triangles, wood, &twins, &positions, service);
-    Outcome::Done
+    let twins = &mut twins[..size.corners()];
+    let positions = &mut positions[..size.edges()];
+    check_mesh(n, triangles, wood, twins, positions)?;
+    let mesh = Accepted {
+        sided: Sided {
+            size,
+            triangles,
+            wood,
+            twins,
+            positions,
+        },
+    };
+    mesh.fill_references(references);
+    mesh.fill_service(service);
+    Ok(())
 }

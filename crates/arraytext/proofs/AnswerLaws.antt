@@ -1,103 +1,136 @@
--- The lines of answers: the fields of a line from the answers one by one, with the most bytes that they can take, a line from its
--- fields, and what a text's lines are by what the reader finds.
-use Prim.Native.Nat.{ℕ, zero, suc, ◌+◌, ◌*◌, ◌-◌, ◌%◌, ◌^◌, ◌≤◌}
+-- The lines of answers: the fields that spell a line's answers, a line from its fields, and one line stored behind the others.
+use Prim.Native.Nat.{ℕ, zero, suc, ◌+◌, ◌*◌, ◌-◌, ◌%◌, ◌^◌, ◌≤◌, ◌<◌}
 use native.Mathlib.Numerals.{add-one}
 use native.Mathlib.Omega.{arith}
-use mathlib.Core.Path.{◌≡◌, refl, sym, ◌∙◌, ap}
-use mathlib.Core.List.{List, [], ◌∷◌, ◌++◌, append_assoc}
-use mathlib.Core.Bool.{Bool, true, false, cond}
-use mathlib.Core.Logic.{◌≢◌}
-use lib.ListN.{length, get_or, set, take, drop}
+use mathlib.Core.Path.{◌≡◌, refl, sym, ◌∙◌, ap, ap₂, subst}
+use mathlib.Core.List.{List, [], ◌∷◌, ◌++◌, append-nil, append_assoc}
+use lib.ListN.{length, get_or, set, take, drop, length-append}
 use borrow.Rule.Slice.PartMut.{put_mid}
-use lib.Dec.{eqb}
-use borrow.Author.Tests.{eqb-true, eqb-false}
-use Rattle.mesh.specs.Search.{gather_from, gather}
-use Rattle.mesh.specs.Limits.{most_vertices}
-use Rattle.mesh.proofs.Tests.{by_bool}
-use Rattle.mesh.proofs.Lists.{gather_none, gather_more}
+use Rattle.std.specs.Prelude.{MatchResult}
+use Rattle.std.specs.declared.result.Result.{Result}
+use Rattle.std.specs.declared.result.Result.TheVariants.{Ok, Err}
+use Rattle.mesh.specs.Search.{gather}
+use Rattle.tables.specs.declared.refusal.Refusal.{Refusal}
+use Rattle.tables.specs.Refusal.{number}
+use Rattle.questions.specs.declared.answer.Reached.{Reached}
+use Rattle.questions.specs.Answers.{listed, target_listed}
 use Rattle.frames.specs.Digits.{digits}
 use Rattle.frames.specs.Frames.{width, line_feed, line}
-use Rattle.frames.specs.Put.{Stored}
-use Rattle.frames.proofs.StoreLaws.{stored_length, stored_none, stored_byte, stored_as, stored_wider, stored_more}
-use Rattle.frames.proofs.PartLaws.{part_placed}
+use Rattle.frames.specs.Put.{Wrote, Stored}
+use Rattle.frames.proofs.DigitLaws.{length_digits}
+use Rattle.frames.proofs.PutLaws.{wrote_over, same_count}
+use Rattle.frames.proofs.StoreLaws.{stored_byte, stored_as, stored_wider, stored_more, lines_more}
+use Rattle.frames.proofs.PartLaws.{front_digits, part_digits, part_placed, length_rest}
+use Rattle.arraytext.specs.declared.field.Field.{Field}
+use Rattle.arraytext.specs.AnswerLines.{fields, answer_line, line_most, value_length, spelled, Spells, SpellsAll}
 use Rattle.arraytext.proofs.FieldLaws.{number_behind}
-use Rattle.arraytext.specs.AnswerLines.{field, fields, about_index, about_vertex, index_answers, vertex_answers, answers_of, question_count, answer_line, answers_text, field_most, first_most, line_most, answers_limit}
 
--- the most bytes of the first answers of a line
-pub first_none : first_most 0 ≡ 0
-unfolding first_most
-first_none = refl
+-- a field as it was converted spells the answer's list
+pub spells_listed : (r : Result ℕ Refusal) (f : Field) (answer : List ℕ) → listed r ≡ answer
+    → MatchResult r (λ v. Spells value_length f (0 ∷ v ∷ [])) (λ e. Spells value_length f (number e ∷ [])) → Spells value_length f answer
+spells_listed (Ok v) f answer e s = subst (Spells value_length f) e s
+spells_listed (Err k) f answer e s = subst (Spells value_length f) e s
 
-pub first_more : (k : ℕ) → first_most k + field_most k ≡ first_most (k + 1)
-unfolding first_most
-first_more k = sym (ap first_most (add-one k))
+pub spells_target : (r : Result Reached Refusal) (f : Field) (answer : List ℕ) → target_listed r ≡ answer
+    → MatchResult r (λ v. Spells (value_length + width) f (0 ∷ v.vertex ∷ v.reads ∷ [])) (λ e. Spells value_length f (number e ∷ [])) → Spells (value_length + width) f answer
+spells_target (Ok v) f answer e s = subst (Spells (value_length + width) f) e s
+spells_target (Err k) f answer e s =
+    subst (Spells (value_length + width) f) e (record { few = omega (arith, s.few); spelled = s.spelled })
 
-pub first_grows : (k m : ℕ) → k ≤ m → first_most k ≤ first_most m
-unfolding first_most
-first_grows k zero l = let e : k ≡ 0 = omega arith in rw e (omega arith)
-first_grows k (suc m) l =
-    by_bool (eqb k (suc m)) (λ t. rw (eqb-true k (suc m) t) (omega arith))
-    (λ t. let n : k ≢ suc m = eqb-false k (suc m) t in omega (arith, first_grows k m (omega arith)))
+pub spells_none : SpellsAll 0 [] []
+unfolding fields spelled
+spells_none = record { few = omega arith; same = refl }
 
--- the answers of a line, one by one
-abbrev pub answer_at : ℕ → ℕ → List ℕ → List ℕ → ℕ → ℕ → List ℕ
-answer_at code n refs service x k = field (get_or (answers_of code n refs service x) k [])
+pub spells_more : {m k : ℕ} {f : Field} {fs : List Field} {answer : List ℕ} {rest : List (List ℕ)} → Spells m f answer → SpellsAll k fs rest
+    → SpellsAll (m + k) (f ∷ fs) (answer ∷ rest)
+unfolding fields spelled
+spells_more {m} {k} {f} {fs} {answer} {rest} s t = record {
+  few = omega (arith, s.few, t.few, length-append (digits f.count f.value) (spelled fs), length_digits f.count f.value);
+  same = ap₂ (λ (a b : List ℕ). a ++ b) s.spelled t.same;
+}
 
-module _ (n : ℕ) (refs service : List ℕ) (x : ℕ) where
-  by_code : (b : Bool) →
-      let answers = cond b (index_answers n refs service x) (vertex_answers n x) in
-      gather (λ k. field (get_or answers k [])) (cond b 6 1) ≡ fields answers
-  unfolding index_answers vertex_answers fields gather gather_from
-  by_code true = refl
-  by_code false = refl
+-- the fields before field i of a line, and field i behind them
+abbrev pub field_at : List Field → ℕ → Field
+field_at fs i = get_or fs i (record { count = 0; value = 0 })
 
-  pub fields_are : (code : ℕ) → gather (answer_at code n refs service x) (question_count code) ≡ fields (answers_of code n refs service x)
-  unfolding answers_of
-  fields_are code = by_code (eqb code about_index)
+pub spelled_more : (fs : List Field) (i : ℕ) → i < length fs
+    → spelled (take (suc i) fs) ≡ spelled (take i fs) ++ digits (field_at fs i).count (field_at fs i).value
+unfolding spelled
+spelled_more [] i l = absurd (omega arith)
+spelled_more (f ∷ fs) zero l = append-nil (digits f.count f.value)
+spelled_more (f ∷ fs) (suc i) l =
+    ap (λ (l : List ℕ). digits f.count f.value ++ l) (spelled_more fs i (omega arith)) ∙
+    sym (append_assoc (digits f.count f.value) (spelled (take i fs)) (digits (field_at fs i).count (field_at fs i).value))
 
-pub fields_none : (f : ℕ → List ℕ) (out : List ℕ) → Stored (first_most 0) (gather f 0) 0 out 0 out
-fields_none f out = rw (first_none, gather_none f) (stored_none 0 out)
+pub spelled_fit : (fs : List Field) (i : ℕ) → i < length fs → length (spelled (take i fs)) + (field_at fs i).count ≤ length (spelled fs)
+unfolding spelled
+spelled_fit [] i l = absurd (omega arith)
+spelled_fit (f ∷ fs) zero l = omega (arith, length-append (digits f.count f.value) (spelled fs), length_digits f.count f.value)
+spelled_fit (f ∷ fs) (suc i) l =
+    omega (
+      arith,
+      spelled_fit fs i (omega arith),
+      length-append (digits f.count f.value) (spelled fs),
+      length-append (digits f.count f.value) (spelled (take i fs)),
+    )
 
--- one answer more, spelled behind those before it
-pub fields_more : (f : ℕ → List ℕ) (k at c v : ℕ) (out p q : List ℕ) → c ≤ field_most k → digits c v ≡ f k
-    → Stored (first_most k) (gather f k) 0 out at p → Stored c (digits c v) at p (at + c) q → Stored (first_most (k + 1)) (gather f (k + 1)) 0 out (at + c) q
-fields_more f k at c v out p q few spelled s t =
-    rw (sym (first_more k), gather_more f k)
-    (stored_more (first_most k) (field_most k) (gather f k) (f k) 0 at (at + c) out p q s
-    (stored_as (field_most k) (digits c v) (f k) at (at + c) p q spelled (stored_wider c (field_most k) (digits c v) at (at + c) p q few t)))
+-- digits with room are never refused
+pub digits_done : (k x : ℕ) (part : List ℕ) (r : Result ℕ Refusal) (part' : List ℕ) → k ≤ length part → Wrote (digits k x) part r part' → r ≡ Ok k
+digits_done k x part r part' l w =
+    let e = length_digits k x in
+    (wrote_over (length (digits k x)) (digits k x) part r part' w (omega arith)).0 ∙ ap Ok e
 
--- a line from its code and what it is about, its fields and the line feed
-pub line_of : (code n : ℕ) (refs service : List ℕ) (x end : ℕ) (out p q : List ℕ)
-    → Stored (2 + width) (digits (2 + width) (code * 16 ^ width + x % 16 ^ width)) 0 out (2 + width) p
-    → Stored (first_most (question_count code)) (fields (answers_of code n refs service x)) (2 + width) p end q
-    → Stored (line_most code) (answer_line code n refs service x) 0 out (end + 1) (set q end line_feed)
-unfolding answer_line line
-line_of code n refs service x end out p q s t =
-    let m : ℕ = first_most (question_count code) in
-    let F : List ℕ = fields (answers_of code n refs service x) in
-    stored_as (line_most code) ((digits (2 + width) (code * 16 ^ width + x % 16 ^ width) ++ F) ++ line_feed ∷ []) (answer_line code n refs service x) 0 (end + 1) out (set q end line_feed)
-    (ap (λ (l : List ℕ). (l ++ F) ++ line_feed ∷ []) (number_behind 2 code x) ∙ simp append_assoc)
-    (stored_wider (2 + width + m + 1) (line_most code) _ 0 (end + 1) out (set q end line_feed) (omega arith)
-    (stored_more (2 + width + m) 1 _ (line_feed ∷ []) 0 end (end + 1) out q (set q end line_feed)
-    (stored_more (2 + width) m _ F 0 (2 + width) end out p q s t) (stored_byte line_feed end q)))
+pub digits_count : (k x : ℕ) (part : List ℕ) (r : Result ℕ Refusal) (part' : List ℕ) → k ≤ length part → Wrote (digits k x) part r part'
+    → (j : ℕ) → r ≡ Ok j → j ≡ k
+digits_count k x part r part' l w j d = same_count k j r (digits_done k x part r part' l w) d
 
--- the lines about indices, then those about vertices, written into the part behind them
-module _ (n : ℕ) (refs service : List ℕ) (few : n ≤ most_vertices) (out : List ℕ) (room : answers_limit ≤ length out) where
-  abbrev index_lines : List ℕ
-  index_lines = gather (answer_line about_index n refs service) (3 * n + 1)
+-- a line: its code with what it is about, its fields, the line feed
+module _ (code x : ℕ) where
+  abbrev pub line_front : List ℕ → List ℕ
+  line_front answers = digits 2 code ++ (digits width x ++ answers)
 
-  abbrev vertex_lines : List ℕ
-  vertex_lines = gather (answer_line about_vertex n refs service) (n + 1)
+  pub line_starts : (part : List ℕ) (r : Result ℕ Refusal) (part' : List ℕ) (at : ℕ) → 2 + width ≤ length part
+      → Wrote (digits (2 + width) (code * 16 ^ width + x % 16 ^ width)) part r part' → r ≡ Ok at
+      → Stored (2 + width + length (spelled [])) (line_front (spelled [])) 0 part at part'
+  unfolding spelled
+  line_starts part r part' at l w e =
+      let k : at ≡ 2 + width = digits_count (2 + width) _ part r part' l w at e in
+      rw k
+      (stored_as (2 + width) _ (line_front []) 0 (2 + width) part part' (number_behind 2 code x ∙ ap (λ (l : List ℕ). digits 2 code ++ l) (sym (append-nil (digits width x))))
+      (front_digits (2 + width) _ part r part' l w))
 
-  pub both_fit : (3 * n + 1) * line_most about_index + (n + 1) * line_most about_vertex ≤ length out
-  unfolding first_most
-  both_fit = omega arith
+  pub line_goes_on : (fs : List Field) (i at : ℕ) (out p : List ℕ) (r : Result ℕ Refusal) (ys : List ℕ) (k : ℕ) →
+      let f = field_at fs i in
+      i < length fs → at + f.count ≤ length p → Stored (2 + width + length (spelled (take i fs))) (line_front (spelled (take i fs))) 0 out at p
+      → Wrote (digits f.count f.value) (take (length p - at) (drop at p)) r ys → r ≡ Ok k
+      → Stored (2 + width + length (spelled (take (i + 1) fs))) (line_front (spelled (take (i + 1) fs))) 0 out (at + k) (put_mid at (length p - at) p ys)
+  line_goes_on fs i at out p r ys k l room s w d =
+      let f = field_at fs i in
+      let c : k ≡ f.count = digits_count f.count f.value _ r ys (omega (arith, length_rest at p)) w k d in
+      let e = spelled_more fs i l in
+      let n : length (spelled (take (suc i) fs)) ≡ length (spelled (take i fs)) + f.count = ap length e ∙ length-append (spelled (take i fs)) (digits f.count f.value) ∙ ap (λ (n : ℕ). length (spelled (take i fs)) + n) (length_digits f.count f.value) in
+      rw (c, add-one)
+      (stored_wider (2 + width + length (spelled (take i fs)) + f.count) _ _ 0 (at + f.count) out _ (omega (arith, n))
+      (stored_as _ (line_front (spelled (take i fs)) ++ digits f.count f.value) _ 0 (at + f.count) out _ (rw e (simp append_assoc))
+      (stored_more (2 + width + length (spelled (take i fs))) f.count _ _ 0 at (at + f.count) out p _ s (part_digits at f.count f.value p r ys room w))))
 
-  pub text_of : (k m : ℕ) (p q : List ℕ) → Stored ((3 * n + 1) * line_most about_index) index_lines 0 out k p
-      → Stored ((n + 1) * line_most about_vertex) vertex_lines 0 (take (length p - k) (drop k p)) m q
-      → Stored answers_limit (answers_text n refs service) 0 out (k + m) (put_mid k (length p - k) p q)
-  unfolding answers_text first_most
-  text_of k m p q s t =
-      stored_wider ((3 * n + 1) * line_most about_index + (n + 1) * line_most about_vertex) answers_limit _ 0 (k + m) out _ (omega arith)
-      (stored_more ((3 * n + 1) * line_most about_index) ((n + 1) * line_most about_vertex) index_lines vertex_lines 0 k (k + m) out p _ s
-      (part_placed ((n + 1) * line_most about_vertex) k m vertex_lines p q (omega (arith, s.few, s.after, both_fit, stored_length _ _ _ _ _ _ s)) t))
+  pub line_ends : (m at : ℕ) (answers out p : List ℕ) → Stored (2 + width + m) (line_front answers) 0 out at p
+      → Stored (line_most m) (line code (digits width x ++ answers)) 0 out (at + 1) (set p at line_feed)
+  unfolding line
+  line_ends m at answers out p s =
+      stored_wider (2 + width + m + 1) (line_most m) _ 0 (at + 1) out _ (omega arith)
+      (stored_as _ _ _ 0 (at + 1) out _ (append_assoc (digits 2 code) (digits width x ++ answers) (line_feed ∷ []))
+      (stored_more (2 + width + m) 1 (line_front answers) (line_feed ∷ []) 0 at (at + 1) out p _ s (stored_byte line_feed at p)))
+
+-- lines of so many bytes at most, one behind the other
+module _ (most code : ℕ) (answers : ℕ → List (List ℕ)) (start : ℕ) (out : List ℕ) (j at : ℕ) (p : List ℕ)
+    (s : Stored (j * line_most most) (gather (answer_line code answers) j) start out at p) where
+  pub line_behind : (fs : List Field) (k : ℕ) (ys : List ℕ) → SpellsAll most fs (answers j) → at + line_most most ≤ length p
+      → Stored (line_most (length (spelled fs))) (line code (digits width j ++ spelled fs)) 0 (take (length p - at) (drop at p)) k ys
+      → Stored ((j + 1) * line_most most) (gather (answer_line code answers) (j + 1)) start out (at + k) (put_mid at (length p - at) p ys)
+  unfolding answer_line
+  line_behind fs k ys q room t =
+      let most' : ℕ = line_most (length (spelled fs)) in
+      lines_more (line_most most) (answer_line code answers) start out j at (at + k) p _ s
+      (stored_as (line_most most) _ _ at (at + k) p _ (ap (λ (l : List ℕ). line code (digits width j ++ l)) q.same)
+      (stored_wider most' (line_most most) _ at (at + k) p _ (omega (arith, q.few)) (part_placed most' at k _ p ys (omega (arith, q.few)) t)))

@@ -7,7 +7,7 @@ use mathlib.Core.Path.{◌≡◌, refl, sym, ◌∙◌, ap, ap₂}
 use mathlib.Core.List.{List, [], ◌∷◌, ◌++◌, append-nil, append_assoc}
 use Rattle.frames.specs.Digits.{digit_of, digits}
 use Rattle.frames.specs.Frames.{width}
-use Rattle.arraytext.specs.AnswerLines.{numbers, field}
+use Rattle.arraytext.specs.AnswerLines.{numbers, field, value_length, Spells}
 
 shifted : (x k : ℕ) → x * 16 ^ suc k ≡ 16 * (x * 16 ^ k)
 shifted x k = ap (λ (p : ℕ). x * p) (pow-succ' 16 k) ∙ mul_left_comm x 16 (16 ^ k)
@@ -41,24 +41,28 @@ digits_join j (suc k) x y l =
     ap (λ (l : List ℕ). l ++ digit_of (y % 16) ∷ []) (digits_join j k x (y / 16) (omega (arith, pow-succ' 16 k))) ∙
     append_assoc (digits j x) (digits k (y / 16)) (digit_of (y % 16) ∷ [])
 
--- a refusal
-pub refusal_spelled : (k : ℕ) → k < 256 → digits 4 (240 * 256 + k) ≡ field (k ∷ [])
-unfolding field
-refusal_spelled k l = digits_join 2 2 240 k l
-
 -- a number of any size, behind others
 pub number_behind : (j x y : ℕ) → digits (j + width) (x * 16 ^ width + y % 16 ^ width) ≡ digits j x ++ digits width y
 number_behind j x y =
     digits_join j width x (y % 16 ^ width) (omega arith) ∙ ap (λ (l : List ℕ). digits j x ++ l) (digits_cut width y)
 
--- an answer of one value, and one of two
-pub value_spelled : (v : ℕ) → digits (1 + width) (v % 16 ^ width) ≡ field (0 ∷ v ∷ [])
+-- a refusal, an answer of one value, and one of two
+pub refusal_spelled : (k : ℕ) → k < 256 → Spells value_length (record { count = 4; value = 240 * 256 + k }) (k ∷ [])
+unfolding field
+refusal_spelled k l = record { few = omega arith; spelled = digits_join 2 2 240 k l }
+
+one_value : (v : ℕ) → digits (1 + width) (v % 16 ^ width) ≡ field (0 ∷ v ∷ [])
 unfolding field numbers
-value_spelled v =
+one_value v =
     ap (digits (1 + width)) (let z : v % 16 ^ width ≡ 0 * 16 ^ width + v % 16 ^ width = omega arith in z) ∙ number_behind 1 0 v ∙
     ap (λ (l : List ℕ). digits 1 0 ++ l) (sym (append-nil (digits width v)))
 
-pub values_spelled : (v w : ℕ) → digits (1 + width + width) (v % 16 ^ width * 16 ^ width + w % 16 ^ width) ≡ field (0 ∷ v ∷ w ∷ [])
+pub value_spelled : (v : ℕ) → Spells value_length (record { count = 1 + width; value = v % 16 ^ width }) (0 ∷ v ∷ [])
+value_spelled v = record { few = omega arith; spelled = one_value v }
+
+pub values_spelled : (v w : ℕ) → Spells (value_length + width) (record { count = 1 + 2 * width; value = v % 16 ^ width * 16 ^ width + w % 16 ^ width }) (0 ∷ v ∷ w ∷ [])
 unfolding field numbers
-values_spelled v w =
-    number_behind (1 + width) (v % 16 ^ width) w ∙ ap (λ (l : List ℕ). l ++ digits width w) (value_spelled v) ∙ simp (append_assoc, append-nil)
+values_spelled v w = record {
+  few = omega arith;
+  spelled = number_behind (1 + width) (v % 16 ^ width) w ∙ ap (λ (l : List ℕ). l ++ digits width w) (one_value v) ∙ simp (append_assoc, append-nil);
+}

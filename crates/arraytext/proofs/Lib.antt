@@ -2,5 +2,6 @@
 pub mod ReadingLaws
 pub mod FieldLaws
 pub mod AnswerLaws
+pub mod LinesLaws
 pub mod RebuildLaws
 pub mod ArrayExample

@@ -1,11 +1,13 @@
 -- What `answers` writes for an array's text: a line for each index from 0 to 3n, then one for each vertex from 0 to n (SPECIFICATION, section 11).
-use Rattle.std.specs.Prelude.{ℕ, zero, suc, ◌+◌, ◌*◌, ◌≤◌, ◌≡◌, List, [], ◌∷◌, ◌++◌, cond, eqb}
+use Rattle.std.specs.Prelude.{ℕ, ◌+◌, ◌*◌, ◌≤◌, ◌≡◌, List, [], ◌∷◌, ◌++◌, length}
 use Rattle.mesh.specs.Search.{gather_from, gather}
 use Rattle.mesh.specs.Limits.{most_vertices}
 use Rattle.mesh.specs.Array.{left, right}
 use Rattle.mesh.specs.Reading.{read_source, read_edge, read_target_of, read_front, read_back}
 use Rattle.frames.specs.Digits.{digits}
 use Rattle.frames.specs.Frames.{width, line}
+use Rattle.arraytext.specs.declared.answering.About.{About}
+use Rattle.arraytext.specs.declared.answering.About.TheVariants.{Index, Vertex}
 use Rattle.arraytext.specs.declared.field.Field.{Field}
 use Rattle.arraytext.specs.ArrayText.{lines_for}
 
@@ -34,6 +36,10 @@ about_index = 6
 abbrev pub about_vertex : ℕ
 about_vertex = 7
 
+abbrev pub about_code : About → ℕ
+about_code Index = about_index
+about_code Vertex = about_vertex
+
 -- what is asked of an index: Source, Target, the Fronts, the Backs; of a vertex: Edge
 unfoldable pub index_answers : ℕ → List ℕ → List ℕ → ℕ → List (List ℕ)
 unfolding read_source read_target_of read_front read_back
@@ -45,47 +51,49 @@ unfoldable pub vertex_answers : ℕ → ℕ → List (List ℕ)
 unfolding read_edge
 vertex_answers n u = read_edge n u ∷ []
 
--- by the line's code
-unfoldable pub answers_of : ℕ → ℕ → List ℕ → List ℕ → ℕ → List (List ℕ)
-unfolding index_answers vertex_answers
-answers_of code n refs service x = cond (eqb code about_index) (index_answers n refs service x) (vertex_answers n x)
-
-abbrev pub question_count : ℕ → ℕ
-question_count code = cond (eqb code about_index) 6 1
-
 -- a line: its code, what it is about, the answers
-unfoldable pub answer_line : ℕ → ℕ → List ℕ → List ℕ → ℕ → List ℕ
-unfolding line answers_of fields
-answer_line code n refs service x = line code (digits width x ++ fields (answers_of code n refs service x))
+unfoldable pub answer_line : ℕ → (ℕ → List (List ℕ)) → ℕ → List ℕ
+unfolding line fields
+answer_line code answers x = line code (digits width x ++ fields (answers x))
 
 unfoldable pub answers_text : ℕ → List ℕ → List ℕ → List ℕ
-unfolding answer_line gather_from gather
+unfolding index_answers vertex_answers answer_line gather_from gather
 answers_text n refs service =
-    gather (answer_line about_index n refs service) (3 * n + 1) ++ gather (answer_line about_vertex n refs service) (n + 1)
+    gather (answer_line about_index (index_answers n refs service)) (3 * n + 1) ++ gather (answer_line about_vertex (vertex_answers n)) (n + 1)
 
 unfoldable pub answer_lines_of : List ℕ → List ℕ
 unfolding answers_text lines_for
 answer_lines_of text = lines_for answers_text text
 
--- the most bytes of an answer: of the k-th of its line, where Target's, the second, carries its reads; and of those before the k-th
+-- the most bytes of an answer, and of those of each line: Target's carries its reads besides
 abbrev pub value_length : ℕ
 value_length = 1 + width
 
-abbrev pub field_most : ℕ → ℕ
-field_most k = cond (eqb k 1) (value_length + width) value_length
+abbrev pub index_most : ℕ
+index_most = 6 * value_length + width
 
-unfoldable pub first_most : ℕ → ℕ
-first_most zero = 0
-first_most (suc k) = first_most k + field_most k
+abbrev pub vertex_most : ℕ
+vertex_most = value_length
 
--- of a line, and of the whole output for the most vertices
+-- of a line whose answers take at most so many, and of the whole output for the most vertices
 abbrev pub line_most : ℕ → ℕ
-line_most code = 3 + width + first_most (question_count code)
+line_most most = 3 + width + most
 
 abbrev pub answers_limit : ℕ
-answers_limit = (3 * most_vertices + 1) * line_most about_index + (most_vertices + 1) * line_most about_vertex
+answers_limit = (3 * most_vertices + 1) * line_most index_most + (most_vertices + 1) * line_most vertex_most
 
--- the digits of one number that spell an answer, at most so many
+-- the digits of one number spell an answer, and there are at most so many
 pub record Spells (most : ℕ) (f : Field) (answer : List ℕ) : Type 0 where
   pub few : f.count ≤ most
   pub spelled : digits f.count f.value ≡ field answer
+
+-- the bytes of fields one after the other
+unfoldable pub spelled : List Field → List ℕ
+unfolding digits
+spelled [] = []
+spelled (f ∷ fs) = digits f.count f.value ++ spelled fs
+
+-- they spell the answers of a line, and there are at most so many
+pub record SpellsAll (most : ℕ) (fs : List Field) (answers : List (List ℕ)) : Type 0 where
+  pub few : length (spelled fs) ≤ most
+  pub same : spelled fs ≡ fields answers

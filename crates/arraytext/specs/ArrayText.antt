@@ -1,14 +1,12 @@
 -- What an array's text means, torn or not (SPECIFICATION, section 11). Its frames have one length and its edges are known, so each
 -- number stands at a place that the edge alone gives.
-use Rattle.std.specs.Prelude.{ℕ, ◌+◌, ◌-◌, ◌*◌, ◌/◌, ◌%◌, ◌<◌, ◌≡◌, List, Bool, true, cond, ◌&&◌, length, take, ltb, eqb}
+use Rattle.std.specs.Prelude.{ℕ, ◌+◌, ◌-◌, ◌*◌, ◌/◌, ◌%◌, List, Bool, true, cond, ◌&&◌, length, ltb, eqb}
 use Rattle.mesh.specs.Search.{first_from, first, every, tabulate_from, tabulate}
-use Rattle.mesh.specs.Limits.{unused_mark, most_vertices, out_of_range, InRange, references_length, service_length}
+use Rattle.mesh.specs.Limits.{unused_mark, out_of_range, references_length, service_length}
 use Rattle.mesh.specs.Wood.{used}
 use Rattle.frames.specs.Digits.{highest, number_at}
 use Rattle.frames.specs.Frames.{width, edge_code, refusal_line}
 use Rattle.frames.specs.Lines.{is_line, is_head, edge_place, edge_total}
-use Rattle.arraytext.specs.declared.reading.ArrayShape.{ArrayShape}
-use Rattle.arraytext.specs.declared.reading.ArrayShape.TheVariants.{Refused, Array}
 
 -- the used indices ascending are 3, 6, 7, then 9 and all above: how many stand before j
 unfoldable pub frame_number : ℕ → ℕ
@@ -59,34 +57,26 @@ unfoldable pub services_in : ℕ → List ℕ → List ℕ
 unfolding service_in tabulate_from tabulate
 services_in n text = tabulate (service_in text) (service_length n)
 
--- what a text is: 20 without a head, 1 where its n is out of range, whatever follows, 20 where its frames are not an array's
-unfoldable pub array_shape : List ℕ → ArrayShape
-unfolding is_line is_array_text out_of_range number_at
-array_shape text =
-    let n = number_at width text 2 in
-    cond (is_head width text) (cond (out_of_range n) (Refused 1) (cond (is_array_text n text) (Array n) (Refused 20))) (Refused 20)
+-- the n that a text's head tells
+unfoldable pub vertices_in : List ℕ → ℕ
+unfolding number_at
+vertices_in text = number_at width text 2
 
--- what a reader of numbers may lean on: edge j has a line of digits
-pub record HasFrame (text : List ℕ) (j : ℕ) : Type 0 where
-  pub edge : used j ≡ true
-  pub below : j < 3 * most_vertices
-  pub line : is_edge_line text j ≡ true
+-- the number that refuses a text, 0 for an array's: 20 without a head, 1 where its n is out of range, whatever follows, 20 where its
+-- frames are not an array's
+unfoldable pub text_refusal : List ℕ → ℕ
+unfolding is_line is_array_text out_of_range vertices_in
+text_refusal text =
+    let n = vertices_in text in
+    cond (is_head width text) (cond (out_of_range n) 1 (cond (is_array_text n text) 0 20)) 20
 
--- and of an array's text, each edge has one
-pub record ArrayFramed (n : ℕ) (text : List ℕ) : Type 0 where
-  pub range : InRange n
-  pub lines : (j : ℕ) → used j ≡ true → j < 3 * n → is_edge_line text j ≡ true
-
--- the fronts of two tables hold the array that a text tells of
-pub record ArrayRead (n : ℕ) (text refs service : List ℕ) : Type 0 where
-  pub references : take (references_length n) refs ≡ references_in n text
-  pub service_bytes : take (service_length n) service ≡ services_in n text
+-- what f makes of the array of n vertices that a text tells of
+abbrev pub told : (ℕ → List ℕ → List ℕ → List ℕ) → ℕ → List ℕ → List ℕ
+told f n text = f n (references_in n text) (services_in n text)
 
 -- what a program writes for a text: the line of its refusal, or what f makes of the array that it tells of
-abbrev pub lines_by : (ℕ → List ℕ → List ℕ → List ℕ) → List ℕ → ArrayShape → List ℕ
-lines_by f text (Refused k) = refusal_line k
-lines_by f text (Array n) = f n (references_in n text) (services_in n text)
-
 unfoldable pub lines_for : (ℕ → List ℕ → List ℕ → List ℕ) → List ℕ → List ℕ
-unfolding array_shape references_in services_in refusal_line
-lines_for f text = lines_by f text (array_shape text)
+unfolding text_refusal vertices_in references_in services_in refusal_line
+lines_for f text =
+    let number : ℕ = text_refusal text in
+    cond (eqb number 0) (told f (vertices_in text) text) (refusal_line number)

@@ -1,11 +1,12 @@
 // An answer as it is written. Its bytes are digits alone, so they are the digits of one number.
-ghost use Rattle.std.specs.Prelude.{[], ◌∷◌, ◌+◌};
+ghost use Rattle.std.specs.Prelude.{[], ◌∷◌, ◌+◌, MatchResult};
+ghost use Rattle.tables.specs.Refusal.{number};
 ghost use Rattle.frames.specs.Frames.{width};
-ghost use Rattle.questions.specs.Answers.{vertex_listed, edge_listed, target_listed};
 ghost use Rattle.arraytext.specs.AnswerLines.{value_length, Spells};
 
 use frames::frame::WIDTH;
-use questions::answer::{EdgeAnswer, TargetAnswer, VertexAnswer};
+use questions::answer::Reached;
+use tables::refusal::Refusal;
 
 #[derive(Clone, Copy)]
 pub(crate) struct Field {
@@ -17,58 +18,51 @@ pub(crate) struct Field {
 pub(crate) const SPAN: usize = 1 << (4 * WIDTH);
 
 // F0 and the number in two digits.
-fn refused(number: u8) -> Field
-    ensures { Spells value_length result (number ∷ []) }
-{
-    Field {
-        count: 4,
-        value: 240 * 256 + number as usize,
+impl From<Refusal> for Field {
+    ghost from_gives = { λ r f. Spells value_length f (number r ∷ []) };
+
+    #[tactic(auto, using(crate::proofs::FieldLaws::refusal_spelled))]
+    fn from(refusal: Refusal) -> Field {
+        Field {
+            count: 4,
+            value: 240 * 256 + refusal.number() as usize,
+        }
     }
 }
 
 // 0 and the value.
-fn one(v: u16) -> Field
-    ensures { Spells value_length result (0 ∷ v ∷ []) }
-{
-    Field {
-        count: 1 + WIDTH,
-        value: v as usize % SPAN,
+impl From<u16> for Field {
+    ghost from_gives = { λ v f. Spells value_length f (0 ∷ v ∷ []) };
+
+    #[tactic(auto, using(crate::proofs::FieldLaws::value_spelled))]
+    fn from(v: u16) -> Field {
+        Field {
+            count: 1 + WIDTH,
+            value: v as usize % SPAN,
+        }
     }
 }
 
-// 0 and both values.
-fn two(v: u16, w: u16) -> Field
-    ensures { Spells (value_length + width) result (0 ∷ v ∷ w ∷ []) }
-{
-    Field {
-        count: 1 + 2 * WIDTH,
-        value: (v as usize % SPAN) * SPAN + w as usize % SPAN,
+// 0, the vertex and the reads.
+impl From<Reached> for Field {
+    ghost from_gives = { λ r f. Spells (value_length + width) f (0 ∷ r.vertex ∷ r.reads ∷ []) };
+
+    #[tactic(auto, using(crate::proofs::FieldLaws::values_spelled))]
+    fn from(reached: Reached) -> Field {
+        Field {
+            count: 1 + 2 * WIDTH,
+            value: (reached.vertex as usize % SPAN) * SPAN + reached.reads as usize % SPAN,
+        }
     }
 }
 
-pub(crate) fn vertex_field(answer: VertexAnswer) -> Field
-    ensures { Spells value_length result (vertex_listed answer) }
-{
-    match answer {
-        VertexAnswer::Vertex(v) => one(v),
-        VertexAnswer::Refused(number) => refused(number),
-    }
-}
+impl<A: Into<Field>, E: Into<Field>> From<Result<A, E>> for Field {
+    ghost from_gives = { λ r f. MatchResult r (λ a. A.converts a f) (λ e. E.converts e f) };
 
-pub(crate) fn edge_field(answer: EdgeAnswer) -> Field
-    ensures { Spells value_length result (edge_listed answer) }
-{
-    match answer {
-        EdgeAnswer::Edge(e) => one(e),
-        EdgeAnswer::Refused(number) => refused(number),
-    }
-}
-
-pub(crate) fn target_field(answer: TargetAnswer) -> Field
-    ensures { Spells (value_length + width) result (target_listed answer) }
-{
-    match answer {
-        TargetAnswer::Reached { vertex, reads } => two(vertex, reads),
-        TargetAnswer::Refused(number) => refused(number),
+    fn from(answer: Result<A, E>) -> Field {
+        match answer {
+            Ok(value) => value.into(),
+            Err(refusal) => refusal.into(),
+        }
     }
 }

@@ -3,9 +3,10 @@
 
 mod answering;
 mod field;
+mod lines;
 mod reading;
 mod rebuilding;
 
 pub use answering::{ANSWERS_LIMIT, answer_lines};
-pub use reading::ARRAY_LIMIT;
-pub use rebuilding::{MESH_LIMIT, rebuild_lines};
+pub use frames::frame::{ARRAY_LIMIT, MESH_LIMIT};
+pub use rebuilding::rebuild_lines;

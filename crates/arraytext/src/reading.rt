@@ -1,20 +1,20 @@
 // An array's text read, torn or not. All frames after the head have one length, and the edges that have a frame are known, so an
 // edge's index gives the place of its numbers.
-ghost use Rattle.std.specs.Prelude.{◌≡◌, true, ◌+◌, ◌*◌, ◌<◌, ◌≤◌, length};
-ghost use Rattle.mesh.specs.Search.{every};
-ghost use Rattle.mesh.specs.Limits.{InRange, most_vertices, references_length, service_length};
+ghost use Rattle.std.specs.Prelude.{◌≡◌, true, ◌+◌, ◌*◌, ◌<◌, ◌≤◌, length, IfOk};
+ghost use Rattle.mesh.specs.Limits.{most_vertices, references_length, service_length};
 ghost use Rattle.mesh.specs.Wood.{used};
+ghost use Rattle.tables.specs.Refusal.{number_met};
 ghost use Rattle.frames.specs.Frames.{width};
 ghost use Rattle.frames.specs.Lines.{edge_place};
-ghost use Rattle.arraytext.specs.ArrayText.{frame_number, edge_digits, number_in, is_edge_frame, is_array_text, reference_in, service_in, array_shape, HasFrame, ArrayFramed, ArrayRead};
+ghost use Rattle.arraytext.specs.ArrayText.{frame_number, edge_digits, number_in, is_edge_frame, is_array_text, reference_in, service_in, references_in, services_in, vertices_in, text_refusal, is_edge_line};
 
 use frames::frame::{EDGE_CODE, EDGE_LENGTH, HEAD_CODE, HEAD_LENGTH, WIDTH};
 use frames::{is_line, number_at};
 use tables::edge::used;
-use tables::limits::{MOST_EDGES, UNUSED, out_of_range};
-
-// The bytes of the longest array's text.
-pub const ARRAY_LIMIT: usize = HEAD_LENGTH + EDGE_LENGTH * (MOST_EDGES - 6);
+use tables::limits::UNUSED;
+use tables::refusal::{Refusal, refuse_if};
+use tables::size::Size;
+use tables::table::fill_by;
 
 // The number that digits F alone write, which stand for the mark.
 const HIGHEST: u16 = UNUSED >> (16 - 4 * WIDTH);
@@ -22,134 +22,136 @@ const HIGHEST: u16 = UNUSED >> (16 - 4 * WIDTH);
 // The digits of an edge's frame.
 const EDGE_DIGITS: usize = 3 * WIDTH + 1;
 
-// The number that refuses a text, or the n of an array's text.
+// A text that is an array's, and how many vertices its head tells.
 #[derive(Clone, Copy)]
-pub(crate) enum ArrayShape {
-    Refused(u8),
-    Array(usize),
+pub(crate) struct ArrayText<'a> {
+    text: &'a [u8],
+    pub size: Size,
+    ghost framed: { is_array_text size.vertices text.now ≡ true },
 }
 
-// How many frames stand before that of edge j.
-fn frame_number(j: usize) -> usize
-    requires { used j ≡ true }
-    ensures { result ≡ frame_number j }
-{
-    if 9 <= j {
-        return j - 6;
+impl<'a> ArrayText<'a> {
+    // The head decides on the size before anything behind it is looked at.
+    #[tactic(auto, unfolding(crate::specs::ArrayText::text_refusal, crate::specs::ArrayText::vertices_in), using(crate::proofs::ReadingLaws::head_number))]
+    pub(crate) fn of(text: &'a [u8]) -> Result<ArrayText<'a>, Refusal>
+        ensures range { number_met result ≡ text_refusal text.now }
+        ensures ok { IfOk result (λ t. (t.text.now ≡ text.now) × (t.size.vertices ≡ vertices_in text.now)) }
+    {
+        refuse_if(!is_line(text, 0, HEAD_CODE, WIDTH), Refusal::NotAText)?;
+        let size = Size::of(number_at(text, 2, WIDTH) as usize)?;
+        refuse_if(!is_array_text(text, size), Refusal::NotAText)?;
+        Ok(ArrayText { text, size })
     }
-    if j == 3 { 0 } else { j - 5 }
+
+    // Place i of the references: edge i / 2, its LeftFront where i is even.
+    #[tactic(auto, unfolding(crate::specs::ArrayText::reference_in, crate::specs::ArrayText::reference_meant), using(crate::proofs::ReadingLaws::array_line))]
+    fn reference(&self, i: usize) -> u16
+        requires { i < references_length self.now.size.vertices }
+        ensures { result ≡ reference_in self.now.text.now i }
+    {
+        let edge = i / 2;
+        if !used(edge) {
+            return UNUSED;
+        }
+        let text = self.text;
+        let reference = EdgeFrame { text, edge }.number(WIDTH + WIDTH * (i % 2), WIDTH);
+        if reference == HIGHEST {
+            UNUSED
+        } else {
+            reference
+        }
+    }
+
+    #[tactic(auto, unfolding(crate::specs::ArrayText::service_in), using(crate::proofs::ReadingLaws::array_line, crate::proofs::ReadingLaws::digit_small_in))]
+    fn service_byte(&self, j: usize) -> u8
+        requires { j < service_length self.now.size.vertices }
+        ensures { result ≡ service_in self.now.text.now j }
+    {
+        if !used(j) {
+            return 0;
+        }
+        let text = self.text;
+        EdgeFrame { text, edge: j }.number(3 * WIDTH, 1) as u8
+    }
+
+    pub(crate) fn read_references(&self, references: &mut [u16])
+        requires { length references.old ≡ references_length self.now.size.vertices }
+        ensures { references.new ≡ references_in self.now.size.vertices self.now.text.now }
+    {
+        fill_by(references, |i| self.reference(i));
+    }
+
+    pub(crate) fn read_service(&self, service: &mut [u8])
+        requires { length service.old ≡ service_length self.now.size.vertices }
+        ensures { service.new ≡ services_in self.now.size.vertices self.now.text.now }
+    {
+        fill_by(service, |j| self.service_byte(j));
+    }
 }
 
-// Where that frame begins.
-fn frame_place(j: usize) -> usize
-    requires { (used j ≡ true) × (j < 3 * most_vertices) }
-    ensures { result ≡ edge_place width (frame_number j) }
-{
-    HEAD_LENGTH + EDGE_LENGTH * frame_number(j)
+// Where the frame of a used edge belongs in a text, whether or not it stands there.
+#[derive(Clone, Copy)]
+struct EdgeFrame<'a> {
+    text: &'a [u8],
+    edge: usize,
+    ghost in_use: { used edge ≡ true },
+    ghost below: { edge < 3 * most_vertices },
 }
 
-// The number that k digits of edge j's frame write, with i digits before them.
-fn number_in(text: &[u8], j: usize, i: usize, k: usize) -> u16
-    requires { HasFrame text.now j × (i + k ≤ edge_digits) × (k ≤ width) }
-    ensures { result ≡ number_in text.now j i k }
-{
-    number_at(text, frame_place(j) + 2 + i, k)
+impl<'a> EdgeFrame<'a> {
+    #[tactic(auto, unfolding(mesh::specs::Wood::used, crate::specs::ArrayText::frame_number))]
+    fn frames_before(self) -> usize
+        ensures { result ≡ frame_number self.entry.edge }
+    {
+        match self.edge {
+            3 => 0,
+            6 | 7 => self.edge - 5,
+            _ => self.edge - 6,
+        }
+    }
+
+    #[tactic(auto, using(crate::proofs::ReadingLaws::frame_within))]
+    fn place(self) -> usize
+        ensures { result ≡ edge_place width (frame_number self.entry.edge) }
+    {
+        HEAD_LENGTH + EDGE_LENGTH * self.frames_before()
+    }
+
+    // The number that k of its digits write, with i digits before them.
+    #[tactic(auto, using(crate::proofs::ReadingLaws::frame_within, crate::proofs::ReadingLaws::number_whole_in))]
+    fn number(self, i: usize, k: usize) -> u16
+        requires line { is_edge_line self.text.now self.edge ≡ true }
+        requires part { i + k ≤ edge_digits }
+        requires whole { k ≤ width }
+        ensures { result ≡ number_in self.entry.text.now self.entry.edge i k }
+    {
+        number_at(self.text, self.place() + 2 + i, k)
+    }
+
+    // A line of its code is there, with the edge's own number in it.
+    #[tactic(auto, unfolding(crate::specs::ArrayText::is_edge_frame, crate::specs::ArrayText::is_edge_line))]
+    fn stands(self) -> bool
+        ensures { result ≡ is_edge_frame self.entry.text.now self.entry.edge }
+    {
+        is_line(self.text, self.place(), EDGE_CODE, EDGE_DIGITS)
+            && self.number(0, WIDTH) as usize == self.edge
+    }
 }
 
 // Unused indices have no frame, and none is asked.
+#[tactic(auto, unfolding(crate::specs::ArrayText::is_edge_frame))]
 fn is_edge_frame(text: &[u8], j: usize) -> bool
     requires { j < 3 * most_vertices }
     ensures { result ≡ is_edge_frame text.now j }
 {
-    if !used(j) {
-        return true;
-    }
-    if !is_line(text, frame_place(j), EDGE_CODE, EDGE_DIGITS) {
-        return false;
-    }
-    number_in(text, j, 0, WIDTH) as usize == j
+    !used(j) || EdgeFrame { text, edge: j }.stands()
 }
 
-fn edge_frames(text: &[u8], count: usize) -> bool
-    requires { count ≤ 3 * most_vertices }
-    ensures { result ≡ every (is_edge_frame text.now) count }
+// Nothing stands behind the last frame.
+fn is_array_text(text: &[u8], size: Size) -> bool
+    ensures { result ≡ is_array_text size.vertices text.now }
 {
-    let mut j: usize = 0;
-    while j < count {
-        if !is_edge_frame(text, j) {
-            return false;
-        }
-        j += 1;
-    }
-    true
-}
-
-fn is_array_text(text: &[u8], n: usize) -> bool
-    requires { InRange n }
-    ensures { result ≡ is_array_text n text.now }
-{
-    if text.len() != HEAD_LENGTH + EDGE_LENGTH * (3 * n - 6) {
-        return false;
-    }
-    edge_frames(text, 3 * n)
-}
-
-// The head decides on n before anything behind it is looked at.
-pub(crate) fn array_shape(text: &[u8]) -> ArrayShape
-    ensures { result ≡ array_shape text.now }
-{
-    if !is_line(text, 0, HEAD_CODE, WIDTH) {
-        return ArrayShape::Refused(20);
-    }
-    let n = number_at(text, 2, WIDTH) as usize;
-    if out_of_range(n) {
-        return ArrayShape::Refused(1);
-    }
-    if !is_array_text(text, n) {
-        return ArrayShape::Refused(20);
-    }
-    ArrayShape::Array(n)
-}
-
-// Place i of the references: edge i / 2, its LeftFront where i is even.
-fn reference_in(text: &[u8], n: usize, i: usize) -> u16
-    requires { ArrayFramed n text.now × (i < references_length n) }
-    ensures { result ≡ reference_in text.now i }
-{
-    let j = i / 2;
-    if !used(j) {
-        return UNUSED;
-    }
-    let reference = number_in(text, j, WIDTH + WIDTH * (i % 2), WIDTH);
-    if reference == HIGHEST {
-        UNUSED
-    } else {
-        reference
-    }
-}
-
-fn service_in(text: &[u8], n: usize, j: usize) -> u8
-    requires { ArrayFramed n text.now × (j < service_length n) }
-    ensures { result ≡ service_in text.now j }
-{
-    if !used(j) {
-        return 0;
-    }
-    number_in(text, j, 3 * WIDTH, 1) as u8
-}
-
-// Both tables of an array of n vertices, into the fronts of those that are lent.
-pub(crate) fn read_array(text: &[u8], n: usize, references: &mut [u16], service: &mut [u8])
-    requires { ArrayFramed n text.now × (references_length n ≤ length references.old) × (service_length n ≤ length service.old) }
-    ensures { ArrayRead n text.now references.new service.new }
-{
-    let mut j: usize = 0;
-    while j < 3 * n {
-        let left = 2 * j;
-        let right = left + 1;
-        references[left] = reference_in(text, n, left);
-        references[right] = reference_in(text, n, right);
-        service[j] = service_in(text, n, j);
-        j += 1;
-    }
+    let edges = size.edges();
+    text.len() == HEAD_LENGTH + EDGE_LENGTH * (edges - 6)
+        && (0..edges).all(|j| is_edge_frame(text, j))
 }

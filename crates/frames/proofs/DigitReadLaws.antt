@@ -3,12 +3,16 @@ use Prim.Native.Nat.{ℕ, zero, suc, ◌+◌, ◌-◌, ◌*◌, ◌%◌, ◌^◌
 use native.Mathlib.Nat.{pow-suc}
 use native.Mathlib.Numerals.{add-one}
 use native.Mathlib.Omega.{arith}
-use mathlib.Core.Path.{◌≡◌, refl, ◌∙◌, ap}
-use mathlib.Core.List.{List}
-use mathlib.Core.Bool.{true, false, ◌&&◌}
+use mathlib.Core.Path.{◌≡◌, refl, sym, ◌∙◌, ap}
+use mathlib.Core.List.{List, [], ◌∷◌, ◌++◌}
+use mathlib.Core.Bool.{true, ◌&&◌}
 use lib.Dec.{leb, ltb}
-use borrow.Author.Tests.{leb-true, ltb-true, ltb-false, lt-ltb, le-ltb, le-leb, lt-leb}
-use Rattle.mesh.proofs.Tests.{by_bool, and_true, or_true}
+use borrow.Author.Tests.{leb-true, ltb-true, lt-ltb, le-ltb, le-leb}
+use Rattle.std.specs.List.{fold, range_with_len}
+use Rattle.std.proofs.lemmas.List.{map-id}
+use Rattle.std.proofs.lemmas.List.FromFn.{map-range_with_len_more}
+use Rattle.std.proofs.lemmas.List.Sums.{fold_push}
+use Rattle.mesh.proofs.Tests.{and_true, or_true}
 use Rattle.mesh.proofs.Search.{every_at, every_of}
 use Rattle.frames.specs.Digits.{byte_at, is_digit, digit_value, digits_at, number_at}
 
@@ -20,17 +24,9 @@ by_digit b e f g =
     (λ t. let u = and_true (leb 48 b) (ltb b 58) t in f (leb-true 48 b u.0) (ltb-true b 58 u.1))
     (λ t. let u = and_true (leb 65 b) (ltb b 71) t in g (leb-true 65 b u.0) (ltb-true b 71 u.1))
 
-pub digit_below : (b : ℕ) → b < 48 → is_digit b ≡ false
-unfolding is_digit
-digit_below b l = let g : b < 65 = omega arith in rw (lt-leb 48 b l, lt-leb 65 b g)
-
 pub digit_decimal : (b : ℕ) → 48 ≤ b → b < 58 → is_digit b ≡ true
 unfolding is_digit
 digit_decimal b l g = rw (le-leb 48 b l, lt-ltb b 58 g)
-
-pub digit_between : (b : ℕ) → 58 ≤ b → b < 65 → is_digit b ≡ false
-unfolding is_digit
-digit_between b l g = let h : 48 ≤ b = omega arith in rw (le-leb 48 b h, le-ltb b 58 l, lt-leb 65 b g)
 
 pub digit_letter : (b : ℕ) → 65 ≤ b → is_digit b ≡ ltb b 71
 unfolding is_digit
@@ -47,10 +43,6 @@ value_letter b l = rw (le-ltb b 65 l)
 pub value_below : (b : ℕ) → is_digit b ≡ true → digit_value b < 16
 value_below b e =
     by_digit b e (λ l g. omega (arith, value_decimal b (omega arith))) (λ l g. omega (arith, value_letter b l))
-
-pub value_most : (b : ℕ) → digit_value b ≤ b
-value_most b =
-    by_bool (ltb b 65) (λ t. omega (arith, value_decimal b (ltb-true b 65 t))) (λ t. omega (arith, value_letter b (ltb-false b 65 t)))
 
 pub digits_each : (k : ℕ) (text : List ℕ) (p i : ℕ) → digits_at k text p ≡ true → i < k → is_digit (byte_at text (p + i)) ≡ true
 unfolding digits_at
@@ -74,12 +66,18 @@ unfolding number_at
 number_more k text p = refl
 
 -- one digit more, modulo what a u16 holds
-pub number_next : (k : ℕ) (text : List ℕ) (p x d : ℕ) → x ≡ number_at k text p % 65536 → d ≡ digit_value (byte_at text (p + k))
-    → (16 * x + d) % 65536 ≡ number_at (k + 1) text p % 65536
-number_next k text p x d e f =
-    let m : number_at (k + 1) text p ≡ 16 * number_at k text p + digit_value (byte_at text (p + k)) =
-    ap (λ (j : ℕ). number_at j text p) (add-one k) ∙ number_more k text p in
-    omega arith
+abbrev pub digit_more : List ℕ → ℕ → ℕ → ℕ → ℕ
+digit_more text p value i = (value * 16 % 65536 + digit_value (byte_at text (p + i))) % 65536
+
+row_more : (k : ℕ) → range_with_len 0 (k + 1) ≡ range_with_len 0 k ++ k ∷ []
+row_more k = sym (map-id _) ∙ map-range_with_len_more (λ i. i) 0 k k (omega arith) ∙ ap (λ l. l ++ k ∷ []) (map-id _)
+
+pub number_folded : (k : ℕ) (text : List ℕ) (p : ℕ) → fold (digit_more text p) 0 (range_with_len 0 k) ≡ number_at k text p % 65536
+number_folded zero text p = omega (arith, number_none text p)
+number_folded (suc k) text p =
+    let e : fold (digit_more text p) 0 (range_with_len 0 (suc k)) ≡ digit_more text p (fold (digit_more text p) 0 (range_with_len 0 k)) k =
+    ap (λ j. fold (digit_more text p) 0 (range_with_len 0 j)) (sym (add-one k)) ∙ ap (fold (digit_more text p) 0) (row_more k) ∙ fold_push (digit_more text p) 0 (range_with_len 0 k) k in
+    e ∙ omega (arith, number_folded k text p, number_more k text p)
 
 -- k digits write less than 16 to the k
 pub number_below : (k : ℕ) (text : List ℕ) (p : ℕ) → digits_at k text p ≡ true → number_at k text p < 16 ^ k

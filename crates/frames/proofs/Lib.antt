@@ -8,6 +8,7 @@ pub mod PartLaws
 pub mod DigitLaws
 pub mod DigitReadLaws
 pub mod FrameLaws
+pub mod FieldLaws
 pub mod LineLaws
 pub mod Standing
 pub mod DigitTrip

@@ -20,9 +20,6 @@ module _ (code m : ℕ) (text : List ℕ) (p : ℕ) where
   unfolding is_line
   line_is = refl
 
-  pub line_high : (byte_at text p ≡ digit_of (code / 16) → ⊥) → is_line code m text p ≡ false
-  line_high h = line_is ∙ rw (ne_eqb (byte_at text p) (digit_of (code / 16)) h)
-
   module _ (high : byte_at text p ≡ digit_of (code / 16)) where
     pub line_low : (byte_at text (p + 1) ≡ digit_of (code % 16) → ⊥) → is_line code m text p ≡ false
     line_low h =
@@ -34,9 +31,6 @@ module _ (code m : ℕ) (text : List ℕ) (p : ℕ) where
       line_coded =
           line_is ∙
           rw (eq-eqb (byte_at text p) (digit_of (code / 16)) high, eq-eqb (byte_at text (p + 1)) (digit_of (code % 16)) low)
-
-      pub line_body : digits_at m text (p + 2) ≡ false → is_line code m text p ≡ false
-      line_body h = line_coded ∙ rw h
 
       pub line_end : digits_at m text (p + 2) ≡ true → is_line code m text p ≡ eqb (byte_at text (p + 2 + m)) line_feed
       line_end h = line_coded ∙ rw h

@@ -1,13 +1,13 @@
 -- Stores one after the other: a run of stores can be made in pieces, or from its last to its first. Pieces stored from a place on, each
 -- where the last one ended, are the whole stored there.
-use Prim.Native.Nat.{ℕ, suc, ◌+◌, ◌*◌, ◌≤◌, ◌<◌}
-use native.Mathlib.Nat.{add-zero, add-suc, suc-add, zero-mul, suc-mul, mul-le-mul_right}
+use Prim.Native.Nat.{ℕ, suc, ◌+◌, ◌*◌, ◌≤◌}
+use native.Mathlib.Nat.{add-zero, add-suc, suc-add, zero-mul, suc-mul}
 use native.Mathlib.Numerals.{add-one}
 use native.Mathlib.Omega.{arith}
 use mathlib.Core.Path.{◌≡◌, refl, sym, ◌∙◌, ap, ap₂, subst}
 use mathlib.Core.List.{List, [], ◌∷◌, ◌++◌}
 use lib.ListN.{length, set, length-append}
-use lib.Seq.{set_comm, sets, length-sets}
+use lib.Seq.{sets, length-sets}
 use Rattle.mesh.specs.Search.{gather}
 use Rattle.mesh.proofs.Lists.{gather_none, gather_more}
 use Rattle.frames.specs.Put.{Stored}
@@ -17,15 +17,6 @@ sets_more [] ws l i = ap (λ (j : ℕ). sets l j ws) (add-zero i)
 sets_more (v ∷ vs) ws l i =
     ap (λ (j : ℕ). sets (sets (set l i v) (suc i) vs) j ws) (add-suc i (length vs) ∙ sym (suc-add i (length vs))) ∙
     sets_more vs ws (set l i v) (suc i)
-
--- the last store of a run made first
-pub sets_last : (vs l : List ℕ) (i d : ℕ) → sets (set l (i + length vs) d) i vs ≡ sets l i (vs ++ d ∷ [])
-sets_last [] l i d = ap (λ (j : ℕ). set l j d) (add-zero i)
-sets_last (v ∷ vs) l i d =
-    ap (λ (m : List ℕ). sets m (suc i) vs)
-    (set_comm l (i + suc (length vs)) i d v (λ e. omega arith) ∙
-    ap (λ (j : ℕ). set (set l i v) j d) (add-suc i (length vs) ∙ sym (suc-add i (length vs)))) ∙
-    sets_last vs (set l i v) (suc i) d
 
 pub stored_none : (at : ℕ) (p : List ℕ) → Stored 0 [] at p at p
 stored_none at p = record { few = omega arith; after = omega arith; stored = refl }
@@ -65,7 +56,3 @@ module _ (w : ℕ) (f : ℕ → List ℕ) (start : ℕ) (out : List ℕ) where
       subst (λ (m : ℕ). Stored m (gather f (j + 1)) start out next q) e
       (stored_as (j * w + w) (gather f j ++ f j) (gather f (j + 1)) start next out q (sym (gather_more f j))
       (stored_more (j * w) w (gather f j) (f j) start at next out p q s t))
-
--- the next of so many lines has room where all have
-pub lines_fit : (w j count : ℕ) → j < count → j * w + w ≤ count * w
-lines_fit w j count l = omega (arith, mul-le-mul_right w l, suc-mul j w)

@@ -1,112 +1,87 @@
-// Capital hexadecimal digits, written and read. The digit count is an argument.
+// Capital hexadecimal digits, written and read. The digit count is an argument, or the length of the part that the digits fill.
 ghost use Rattle.std.specs.Prelude.{◌≡◌, ◌+◌, ◌%◌, ◌<◌, ◌≤◌, length};
-ghost use Rattle.std.proofs.lemmas.List.Edits.{sets};
 ghost use Rattle.frames.specs.Digits.{digit_of, digits, byte_at, is_digit, digit_value, digits_at, number_at};
 ghost use Rattle.frames.specs.Put.{Wrote};
 
-use crate::part::Put;
+use tables::refusal::Refusal;
 
 pub(crate) fn digit(d: usize) -> u8
     requires { d < 16 }
     ensures { result ≡ digit_of d }
 {
     if d < 10 {
-        (48 + d) as u8
+        b'0' + d as u8
     } else {
-        (55 + d) as u8
+        b'A' + (d - 10) as u8
     }
 }
 
-// Stores the last k digits of x from place `at` on, the last digit first.
-pub(crate) fn store_digits(part: &mut [u8], at: usize, k: usize, x: usize)
-    requires { at + k ≤ length part.old }
-    ensures { part.new ≡ sets part.old at (digits k x) }
+// Fills the places with the last digits of x, the last digit first. By index: of the elements behind `iter_mut().rev()` nothing is known
+// after a loop.
+pub(crate) fn store_digits(places: &mut [u8], x: usize)
+    ensures { places.new ≡ digits (length places.old) x }
 {
-    let mut left = k;
     let mut rest = x;
-    while 0 < left {
-        left -= 1;
-        part[at + left] = digit(rest % 16);
+    for i in (0..places.len()).rev() {
+        places[i] = digit(rest % 16);
         rest /= 16;
     }
 }
 
-pub fn put_digits(part: &mut [u8], k: usize, x: usize) -> Put
+pub fn put_digits(part: &mut [u8], k: usize, x: usize) -> Result<usize, Refusal>
     ensures { Wrote (digits k x) part.old result part.new }
 {
     if part.len() < k {
-        return Put::Refused(2);
+        return Err(Refusal::Length);
     }
-    store_digits(part, 0, k, x);
-    Put::Done(k)
+    store_digits(&mut part[..k], x);
+    Ok(k)
 }
 
-// '0' to '9', 'A' to 'F'.
+#[tactic(auto, unfolding(crate::specs::Digits::is_digit))]
 fn is_digit(b: u8) -> bool
     ensures { result ≡ is_digit b }
 {
-    if b < 48 {
-        return false;
-    }
-    if b < 58 {
-        return true;
-    }
-    if b < 65 {
-        return false;
-    }
-    b < 71
+    matches!(b, b'0'..=b'9' | b'A'..=b'F')
 }
 
 // Every byte has a value; only that of a digit means something.
-fn digit_value(b: u8) -> usize
+#[tactic(auto, unfolding(crate::specs::Digits::digit_value))]
+fn digit_value(b: u8) -> u16
     ensures { result ≡ digit_value b }
 {
-    if b < 48 {
-        return 0;
-    }
-    if b < 65 {
-        (b - 48) as usize
+    if b < b'A' {
+        b.saturating_sub(b'0') as u16
     } else {
-        (b - 55) as usize
+        (b - b'A' + 10) as u16
     }
 }
 
-// The byte i places behind p; 0 past the end of the text.
+// The byte i places behind p; 0 past the end of the text, as `byte_at` of the definitions: `number_at` promises its number there too.
 fn byte_behind(text: &[u8], p: usize, i: usize) -> u8
     ensures { result ≡ byte_at text.now (p + i) }
 {
-    if text.len() <= p {
-        return 0;
-    }
-    if text.len() - p <= i {
-        return 0;
-    }
-    text[p + i]
+    p.checked_add(i)
+        .and_then(|place| text.get(place))
+        .copied()
+        .unwrap_or(0)
 }
 
 pub(crate) fn digits_at(text: &[u8], p: usize, k: usize) -> bool
     requires { p + k ≤ length text.now }
     ensures { result ≡ digits_at k text.now p }
 {
-    let mut i: usize = 0;
-    while i < k {
-        if !is_digit(text[p + i]) {
-            return false;
-        }
-        i += 1;
-    }
-    true
+    (0..k).all(|i| is_digit(text[p + i]))
 }
 
 // The number that the k bytes at place p write, modulo 65,536: four digits are the most that a u16 holds.
 pub fn number_at(text: &[u8], p: usize, k: usize) -> u16
     ensures { result ≡ number_at k text.now p % 65536 }
 {
-    let mut value: usize = 0;
-    let mut i: usize = 0;
-    while i < k {
-        value = (16 * value + digit_value(byte_behind(text, p, i))) % 65536;
-        i += 1;
-    }
-    value as u16
+    (0..k).fold(
+        0u16,
+        |value, i| value
+            .wrapping_mul(16)
+            .wrapping_add(digit_value(byte_behind(text, p, i))),
+    )
 }

@@ -4,9 +4,7 @@
 pub mod digit;
 pub mod frame;
 pub mod line;
-pub mod part;
 
 pub use digit::{number_at, put_digits};
 pub use frame::{put_edge, put_head, put_refusal, put_triple};
 pub use line::is_line;
-pub use part::Put;

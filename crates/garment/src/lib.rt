@@ -2,7 +2,7 @@
 #![tactic(auto)]
 
 pub use array::build;
-pub use questions::answer::{EdgeAnswer, PointAnswer, TargetAnswer, VertexAnswer};
+pub use questions::answer::{Coordinates, Reached};
 pub use questions::backs::{left_back, right_back};
 pub use questions::ends::{edge, source};
 pub use questions::fronts::{left_front, right_front};
@@ -10,4 +10,4 @@ pub use questions::point::point;
 pub use questions::walk::target;
 pub use rebuild::rebuild;
 pub use tables::limits::{MOST_VERTICES, UNUSED};
-pub use tables::outcome::Outcome;
+pub use tables::refusal::Refusal;

@@ -3,6 +3,7 @@
 -- Tests and case splits, the search, counting, iteration, lists given by a function.
 pub mod Tests
 pub mod Search
+pub mod Ranges
 pub mod Count
 pub mod Iterate
 pub mod Lists

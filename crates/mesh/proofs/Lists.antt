@@ -1,5 +1,5 @@
 -- Lists given by a function: what stands where, and the two ways in which a loop makes one. A filler paints a buffer from the
--- front (`painted`); a loop that writes some numbers at each turn lays them over a buffer's front (`gathered`, `laid`).
+-- front (`painted`); one that writes some numbers at each turn gathers them.
 use Prim.Native.Nat.{ℕ, zero, suc, ◌+◌, ◌≤◌, ◌<◌}
 use native.Mathlib.Nat.{add-zero, zero-add, eq-or-lt_of_le, le_of_suc-le-suc}
 use native.Mathlib.Numerals.{add-one}
@@ -7,8 +7,8 @@ use native.Mathlib.Omega.{arith}
 use mathlib.Core.Path.{◌≡◌, refl, sym, ap, ap₂, ◌∙◌}
 use mathlib.Core.List.{List, [], ◌∷◌, ◌++◌, append-nil, append_assoc}
 use mathlib.Core.Logic.{⊎_elim}
-use lib.ListN.{length, get_or, set, drop, length-set, length-append, length-drop}
-use lib.Seq.{ext_get_or, get_or-set_same, get_or-set_other, sets, sets-eq, take-append_seam, drop-append-add, drop-drop}
+use lib.ListN.{length, get_or, set, length-set, length-append}
+use lib.Seq.{ext_get_or, get_or-set_same, get_or-set_other}
 use Rattle.mesh.specs.Search.{tabulate, tabulate_from, gather, gather_from, painted}
 
 length_tabulate_from {ℓ} : {A : Type ℓ} (f : ℕ → A) (k m : ℕ) → length (tabulate_from f k m) ≡ m
@@ -114,25 +114,6 @@ gather_grows f k (suc m) h =
     ap (λ (j : ℕ). length (gather f j)) (sym (add-one m)) ∙ ap length (gather_more f m) ∙ length-append (gather f m) (f m) in
     omega arith)
     (eq-or-lt_of_le h)
-
--- new over the front of old
-unfoldable pub laid : List ℕ → List ℕ → List ℕ
-laid new old = new ++ drop (length new) old
-
-pub laid_none : (old : List ℕ) → laid [] old ≡ old
-unfolding laid
-laid_none old = refl
-
-pub laid_more : (new e old : List ℕ) → length new + length e ≤ length old → sets (laid new old) (length new) e ≡ laid (new ++ e) old
-unfolding laid
-laid_more new e old h =
-    sets-eq e (new ++ drop (length new) old) (length new) (omega (arith, length-append new (drop (length new) old), length-drop (length new) old)) ∙
-    (ap₂ (λ (a b : List ℕ). a ++ e ++ b) (take-append_seam new (drop (length new) old)) (drop-append-add new (drop (length new) old) (length e) ∙ drop-drop (length e) (length new) old) ∙
-    ap (λ (k : ℕ). (new ++ e) ++ drop k old) (sym (length-append new e)))
-
-pub length_laid : (new old : List ℕ) → length new ≤ length old → length (laid new old) ≡ length old
-unfolding laid
-length_laid new old h = omega (arith, length-append new (drop (length new) old), length-drop (length new) old)
 
 -- within a list what is read does not depend on what is read past its end
 pub get_d_any {ℓ} : {A : Type ℓ} (l : List A) (i : ℕ) (d e : A) → i < length l → get_or l i d ≡ get_or l i e

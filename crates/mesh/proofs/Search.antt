@@ -1,13 +1,15 @@
 -- The search's laws. `First p m r` says what r is, without computing it: at most m, a hit where it is below m, and no hit before.
 -- Two such numbers are equal, so a loop that returns the first hit returns `first p m`. "Some" and "every" are read off it.
 use Prim.Native.Nat.{ℕ, zero, suc, ◌+◌, ◌≤◌, ◌<◌}
-use mathlib.Core.Path.{◌≡◌, refl, ap, ◌∙◌}
-use mathlib.Core.Bool.{Bool, true, false, not}
+use mathlib.Core.Path.{◌≡◌, refl, sym, ap, subst, ◌∙◌}
+use mathlib.Core.Bool.{Bool, true, false, cond, not}
 use mathlib.Core.Logic.{◌≢◌}
 use native.Mathlib.Omega.{arith}
 use lib.Dec.{ltb, eqb}
 use borrow.Author.Tests.{ltb-true, ltb-false, leb-true, leb-false, le-leb, eqb-true, eqb-false, lt-ltb, le-ltb, not-true, not-false}
-use Rattle.mesh.specs.Search.{first_from, first, some, every}
+use Rattle.std.specs.declared.option.Option.TheVariants.{Some, None}
+use Rattle.std.specs.Option.{is_some}
+use Rattle.mesh.specs.Search.{first_from, first, lowest, some, every}
 use Rattle.mesh.proofs.Tests.{by_bool, clash, by_order}
 
 pub record First (p : ℕ → Bool) (m r : ℕ) : Type 0 where
@@ -98,6 +100,29 @@ pub some_is : (p : ℕ → Bool) (m : ℕ) → some p m ≡ ltb (first p m) m
 unfolding some
 some_is p m = refl
 
+-- the lowest one, where there is one
+pub lowest_at : (p : ℕ → Bool) (m r : ℕ) → r < m → p r ≡ true → ((k : ℕ) → k < r → p k ≡ false) → lowest p m ≡ Some r
+unfolding lowest
+lowest_at p m r l t h = let e = first_at p m r l t h in rw (e, lt-ltb r m l) refl
+
+pub lowest_none : (p : ℕ → Bool) (m : ℕ) → ((k : ℕ) → k < m → p k ≡ false) → lowest p m ≡ None
+unfolding lowest
+lowest_none p m h = let e = first_none p m h in rw (e, le-ltb m m (omega arith)) refl
+
+pub lowest_some : (p : ℕ → Bool) (m : ℕ) → is_some (lowest p m) ≡ some p m
+unfolding lowest some
+lowest_some p m = by_bool (ltb (first p m) m) (λ t. rw t refl) (λ t. rw t refl)
+
+-- what was found is the first, and is below the bound
+pub lowest_found : (p : ℕ → Bool) (m r : ℕ) → lowest p m ≡ Some r → (r ≡ first p m) × (r < m)
+unfolding lowest
+lowest_found p m r e =
+    by_bool (ltb (first p m) m) (λ t. let f : cond true (Some (first p m)) None ≡ Some r = subst (λ b. cond b (Some (first p m)) None ≡ Some r) t e in let g : r ≡ first p m = cc in (g, omega (arith, ltb-true (first p m) m t)))
+    (λ t. let f : cond false (Some (first p m)) None ≡ Some r = subst (λ b. cond b (Some (first p m)) None ≡ Some r) t e in clash (is_some (Some r)) refl (ap is_some (sym f)))
+
+pub lowest_found_none : (p : ℕ → Bool) (m : ℕ) → lowest p m ≡ None → (k : ℕ) → k < m → p k ≡ false
+lowest_found_none p m e = some_none p m (sym (lowest_some p m) ∙ ap is_some e)
+
 -- every
 pub every_at : (p : ℕ → Bool) (m : ℕ) → every p m ≡ true → (k : ℕ) → k < m → p k ≡ true
 unfolding every
@@ -114,11 +139,3 @@ every_fails p m e =
     let k : ℕ = first (λ k. not (p k)) m in
     let l : k < m = leb-false m k e in
     (k, l, not-true (p k) ((first_law (λ k. not (p k)) m).hit l))
-
--- a place that is the first one: below the bound there is one, at the bound there is none
-module _ (p : ℕ → Bool) (m r : ℕ) (e : r ≡ first p m) where
-  pub place_below : r < m → some p m ≡ true
-  place_below l = some_is p m ∙ lt-ltb (first p m) m (omega arith)
-
-  pub place_none : m ≤ r → some p m ≡ false
-  place_none l = some_is p m ∙ le-ltb (first p m) m (omega arith)

@@ -1,4 +1,6 @@
 -- One search, and what is made of it: "there is", "for each", the lists that a function gives. All of it computes.
+use Rattle.std.specs.declared.option.Option.{Option}
+use Rattle.std.specs.declared.option.Option.TheVariants.{Some, None}
 use Rattle.std.specs.Prelude.{ℕ, zero, suc, ◌+◌, List, [], ◌∷◌, ◌++◌, Bool, cond, not, set, leb, ltb}
 
 -- the lowest number from k on that passes, of the next m; k + m where none of them does
@@ -9,6 +11,10 @@ first_from p k (suc m) = let later = first_from p (suc k) m in cond (p k) k late
 -- the lowest number below m that passes; m where there is none
 unfoldable pub first : (ℕ → Bool) → ℕ → ℕ
 first p m = first_from p 0 m
+
+-- the same where there is one
+unfoldable pub lowest : (ℕ → Bool) → ℕ → Option ℕ
+lowest p m = cond (ltb (first p m) m) (Some (first p m)) None
 
 -- some number below m passes
 unfoldable pub some : (ℕ → Bool) → ℕ → Bool

@@ -17,8 +17,9 @@ use Rattle.tables.proofs.EdgeLaws.{used_inner}
 use Rattle.frames.specs.Frames.{width, head_frame, edge_frame, edge_line, array_text}
 use Rattle.frames.specs.Lines.{head_length, edge_length, edge_place, edge_total}
 use Rattle.frames.specs.Put.{Wrote, Stored}
-use Rattle.frames.specs.declared.part.Put.{Put}
-use Rattle.frames.specs.declared.part.Put.TheVariants.{Done}
+use Rattle.std.specs.declared.result.Result.{Result}
+use Rattle.std.specs.declared.result.Result.TheVariants.{Ok}
+use Rattle.tables.specs.declared.refusal.Refusal.{Refusal}
 use Rattle.frames.proofs.FrameLaws.{length_head, length_edge}
 use Rattle.frames.proofs.StoreLaws.{stored_more}
 use Rattle.frames.proofs.PutLaws.{wrote_frame, wrote_stored}
@@ -83,8 +84,8 @@ module _ (refs service : List ℕ) where
         )
 
     -- the head, then the lines behind it
-    pub array_wrote : (entry out last : List ℕ) (r : Put) (m at : ℕ) → edge_place width (edge_total n) ≤ length entry → Wrote (head_frame width n) entry r out
-        → Stored m (gather (edge_line width refs service) (3 * n)) (head_length width) out at last → Wrote (array_text n refs service) entry (Done at) last
+    pub array_wrote : (entry out last : List ℕ) (r : Result ℕ Refusal) (m at : ℕ) → edge_place width (edge_total n) ≤ length entry → Wrote (head_frame width n) entry r out
+        → Stored m (gather (edge_line width refs service) (3 * n)) (head_length width) out at last → Wrote (array_text n refs service) entry (Ok at) last
     unfolding array_text
     array_wrote entry out last r m at room w s =
         let h : length (head_frame width n) ≡ head_length width = length_head width n in

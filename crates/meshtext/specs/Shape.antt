@@ -1,36 +1,33 @@
--- What the code keeps of a text between its steps: how many frames of each kind there are, and tables of the lengths that n asks.
-use Rattle.std.specs.Prelude.{ℕ, ◌-◌, ◌*◌, ◌≡◌, List, [], Bool, true, cond, not, ◌&&◌, length, eqb}
-use Rattle.mesh.specs.Limits.{triangles_length, wood_length, references_length, service_length, InRange}
+-- What the code keeps between its steps: the numbers that the sizes of a text meet, a frame that has its place in the output, and the answer
+-- that a build leaves.
+use Rattle.std.specs.Prelude.{ℕ, ◌≡◌, List, [], ◌++◌, take}
+use Rattle.std.specs.declared.result.Result.{Result}
+use Rattle.std.specs.declared.result.Result.TheVariants.{Ok, Err}
 use Rattle.mesh.specs.Ladder.{first_of}
-use Rattle.mesh.specs.Verdict.{sized}
-use Rattle.frames.specs.Frames.{width}
-use Rattle.meshtext.specs.Reading.{frame_count, triangle_count, is_text}
-use Rattle.meshtext.specs.declared.reading.Shape.{Shape}
-use Rattle.meshtext.specs.declared.reading.Shape.TheVariants.{Wrong, Frames}
-
-unfoldable pub shape_of : List ℕ → Shape
-shape_of text =
-    cond (is_text width text) (Frames (triangle_count width text) (frame_count width text - triangle_count width text)) Wrong
-
--- a mesh of n vertices has so many triangles and inner vertices
-abbrev pub counts_fit : ℕ → ℕ → ℕ → Bool
-counts_fit n triangles vertices = eqb triangles (2 * n - 4) && eqb vertices (n - 3)
+use Rattle.mesh.specs.Verdict.{wrong_lengths, sized}
+use Rattle.mesh.specs.Limits.{references_length, service_length}
+use Rattle.mesh.specs.Wood.{anchor_targets}
+use Rattle.tables.specs.declared.refusal.Refusal.{Refusal}
+use Rattle.tables.specs.declared.size.Size.{Size}
+use Rattle.tables.specs.Refusal.{number}
+use Rattle.frames.specs.Digits.{number_at}
+use Rattle.frames.specs.Frames.{width, refusal_line, array_text}
+use Rattle.frames.specs.Put.{Stored}
+use Rattle.meshtext.specs.Reading.{triangles_in, targets_in}
 
 -- 1 by n, 2 by the counts of frames, 0 where both are right
-unfoldable pub size_number : ℕ → ℕ → ℕ → ℕ
-size_number n triangles vertices = first_of (sized n (not (counts_fit n triangles vertices)) [])
+unfoldable pub sizes_met : List ℕ → ℕ
+sizes_met text =
+    let n = number_at width text 2 in
+    first_of (sized n (wrong_lengths n (triangles_in width text) (anchor_targets ++ targets_in width text)) [])
 
--- the frames of a text, counted
-pub record Counted (text : List ℕ) (triangles vertices : ℕ) : Type 0 where
-  pub text_is : is_text width text ≡ true
-  pub triangles_are : triangles ≡ triangle_count width text
-  pub vertices_are : vertices ≡ frame_count width text - triangle_count width text
+-- at most so many bytes at a place of a buffer, and the answer is where they end
+pub record Placed (most : ℕ) (bytes : List ℕ) (at : ℕ) (buffer : List ℕ) (r : Result ℕ Refusal) (buffer' : List ℕ) : Type 0 where
+  pub next : ℕ
+  pub answer : r ≡ Ok next
+  pub stored : Stored most bytes at buffer next buffer'
 
--- tables of the lengths that n asks, for a text whose counts n asks too
-pub record Tables (text : List ℕ) (n : ℕ) (corners wood references service : List ℕ) : Type 0 where
-  pub counted : Counted text (2 * n - 4) (n - 3)
-  pub range : InRange n
-  pub corners_long : length corners ≡ triangles_length n
-  pub wood_long : length wood ≡ wood_length n
-  pub references_long : length references ≡ references_length n
-  pub service_long : length service ≡ service_length n
+-- the answer's lines, by what a build left in the fronts of two tables
+abbrev pub lines_of : Result Size Refusal → List ℕ → List ℕ → List ℕ
+lines_of (Ok s) refs service = array_text s.vertices (take (references_length s.vertices) refs) (take (service_length s.vertices) service)
+lines_of (Err r) refs service = refusal_line (number r)

@@ -3,151 +3,103 @@ ghost use Rattle.std.specs.Prelude.{◌≤◌, length};
 
 use crate::rebuilds::rebuilt;
 use crate::say;
-use crate::table::{UNUSED, fill};
-use garment::{Outcome, build};
+use crate::table::fill;
+use garment::{UNUSED, build};
 use std::io;
 
-// What is asked of a piece's array: Four is P1 to P4.
 #[derive(Clone, Copy)]
-pub(crate) enum Ask {
-    Nothing,
+pub(crate) enum Question {
     Target(usize),
     LeftBack(usize),
     RightBack(usize),
-    Four,
 }
 
-fn target(rt: &impl Print, name: &str, n: usize, references: &[u16], j: usize) -> io::Result<()> {
-    say::target(rt, name, garment::target(n, references, j))
+// A question, and how its line begins.
+#[derive(Clone, Copy)]
+pub(crate) struct Asked {
+    pub name: &'static str,
+    pub question: Question,
 }
 
-fn left_back(
-    rt: &impl Print,
-    name: &str,
+// Corners and targets are digits; '-' is unused.
+#[derive(Clone, Copy)]
+pub(crate) struct Piece {
+    pub name: &'static str,
+    pub n: usize,
+    pub corners: &'static [u8],
+    pub targets: &'static [u8],
+    pub asked: &'static [Asked],
+    ghost corners_fit: { length corners.now ≤ 48 },
+    ghost targets_fit: { length targets.now ≤ 30 },
+}
+
+#[derive(Clone, Copy)]
+struct Built<'a> {
     n: usize,
-    references: &[u16],
-    service: &[u8],
-    j: usize,
-) -> io::Result<()> {
-    say::edge(
-        rt,
-        name,
-        " LeftBack",
-        j,
-        garment::left_back(n, references, service, j),
-    )
+    references: &'a [u16],
+    service: &'a [u8],
 }
 
-fn right_back(
-    rt: &impl Print,
-    name: &str,
-    n: usize,
-    references: &[u16],
-    service: &[u8],
-    j: usize,
-) -> io::Result<()> {
-    say::edge(
-        rt,
-        name,
-        " RightBack",
-        j,
-        garment::right_back(n, references, service, j),
-    )
-}
-
-// P1 to P4.
-fn four_questions(rt: &impl Print, references: &[u16], service: &[u8]) -> io::Result<()> {
-    target(rt, "P1", 4, references, 6)?;
-    target(rt, "P2", 4, references, 3)?;
-    target(rt, "P3", 4, references, 11)?;
-    right_back(rt, "P4", 4, references, service, 6)
-}
-
-fn question(
-    rt: &impl Print,
-    name: &str,
-    n: usize,
-    references: &[u16],
-    service: &[u8],
-    ask: Ask,
-) -> io::Result<()> {
-    match ask {
-        Ask::Nothing => Ok(()),
-        Ask::Target(j) => target(rt, name, n, references, j),
-        Ask::LeftBack(j) => left_back(rt, name, n, references, service, j),
-        Ask::RightBack(j) => right_back(rt, name, n, references, service, j),
-        Ask::Four => four_questions(rt, references, service),
+impl Built<'_> {
+    fn answer(&self, rt: &impl Print, asked: Asked) -> io::Result<()> {
+        let name = asked.name;
+        match asked.question {
+            Question::Target(j) => {
+                say::target(rt, name, garment::target(self.n, self.references, j))
+            }
+            Question::LeftBack(j) => {
+                let answer = garment::left_back(self.n, self.references, self.service, j);
+                say::edge(rt, name, "LeftBack", j, answer)
+            }
+            Question::RightBack(j) => {
+                let answer = garment::right_back(self.n, self.references, self.service, j);
+                say::edge(rt, name, "RightBack", j, answer)
+            }
+        }
     }
 }
 
-fn is_done(outcome: Outcome) -> bool {
-    if let Outcome::Done = outcome {
-        true
-    } else {
-        false
+impl Piece {
+    // Everything about the piece, by tables of its lengths.
+    fn show(
+        &self,
+        rt: &impl Print,
+        triangles: &mut [u16],
+        wood: &mut [u16],
+        references: &mut [u16],
+        service: &mut [u8],
+    ) -> io::Result<()> {
+        let outcome = build(self.n, triangles, wood, references, service);
+        say::outcome(rt, self.name, "build", outcome)?;
+        if outcome.is_err() {
+            return Ok(());
+        }
+        let built = Built {
+            n: self.n,
+            references,
+            service,
+        };
+        for asked in self.asked {
+            built.answer(rt, *asked)?;
+        }
+        rebuilt(rt, self.name, self.n, references, wood, triangles)
     }
-}
 
-// Whether it is built.
-fn built(
-    rt: &impl Print,
-    name: &str,
-    n: usize,
-    triangles: &[u16],
-    wood: &[u16],
-    references: &mut [u16],
-    service: &mut [u8],
-) -> io::Result<bool> {
-    let outcome = build(n, triangles, wood, references, service);
-    say::outcome(rt, name, " build", outcome)?;
-    Ok(is_done(outcome))
-}
-
-fn shown(
-    rt: &impl Print,
-    name: &str,
-    n: usize,
-    triangles: &mut [u16],
-    wood: &mut [u16],
-    references: &mut [u16],
-    service: &mut [u8],
-    ask: Ask,
-) -> io::Result<()> {
-    if built(rt, name, n, triangles, wood, references, service)? {
-        question(rt, name, n, references, service, ask)?;
-        rebuilt(rt, name, n, references, wood, triangles)?;
+    pub(crate) fn run(&self, rt: &impl Print) -> io::Result<()> {
+        let mut triangles = [UNUSED; 48];
+        let mut wood = [UNUSED; 30];
+        let mut references = [UNUSED; 60];
+        let mut service = [0u8; 30];
+        let c = self.corners.len();
+        let e = self.targets.len();
+        fill(&mut triangles, self.corners);
+        fill(&mut wood, self.targets);
+        self.show(
+            rt,
+            &mut triangles[..c],
+            &mut wood[..e],
+            &mut references[..2 * e],
+            &mut service[..e],
+        )
     }
-    Ok(())
-}
-
-// The piece with these corners and targets, as digits; '-' is unused.
-pub(crate) fn run(
-    rt: &impl Print,
-    name: &str,
-    n: usize,
-    corners: &[u8],
-    targets: &[u8],
-    ask: Ask,
-) -> io::Result<()>
-    requires corners { length corners.now ≤ 48 }
-    requires targets { length targets.now ≤ 30 }
-{
-    let mut triangles = [UNUSED; 48];
-    let mut wood = [UNUSED; 30];
-    let mut references = [UNUSED; 60];
-    let mut service = [0u8; 30];
-    let c = corners.len();
-    let e = targets.len();
-    fill(&mut triangles, corners);
-    fill(&mut wood, targets);
-    shown(
-        rt,
-        name,
-        n,
-        &mut triangles[..c],
-        &mut wood[..e],
-        &mut references[..2 * e],
-        &mut service[..e],
-        ask,
-    )
 }

@@ -1,14 +1,7 @@
 // Rebuilds into marked tables, so that what is printed comes from the rebuild.
 use crate::say;
-use crate::table::mark;
-use garment::Outcome;
+use crate::table::MARK;
 use std::io;
-
-fn rebuild(n: usize, references: &[u16], wood: &mut [u16], triangles: &mut [u16]) -> Outcome {
-    mark(wood);
-    mark(triangles);
-    garment::rebuild(n, references, wood, triangles)
-}
 
 pub(crate) fn rebuilt(
     rt: &impl Print,
@@ -18,8 +11,10 @@ pub(crate) fn rebuilt(
     wood: &mut [u16],
     triangles: &mut [u16],
 ) -> io::Result<()> {
-    let outcome = rebuild(n, references, wood, triangles);
-    say::outcome(rt, name, " rebuild", outcome)?;
+    wood.fill(MARK);
+    triangles.fill(MARK);
+    let outcome = garment::rebuild(n, references, wood, triangles);
+    say::outcome(rt, name, "rebuild", outcome)?;
     say::mesh(rt, name, triangles, wood)
 }
 

@@ -1,32 +1,20 @@
-// Tables of numbers: filled from a row of digits, or with one mark.
-
-pub(crate) const UNUSED: u16 = 65535;
+// Tables of numbers, filled from a row of digits.
+use garment::UNUSED;
 
 // What no engine writes here, so that a table that still holds it was not written.
-const MARK: u16 = 4242;
+pub(crate) const MARK: u16 = 4242;
 
 // '0' to '9', and '-' for what is unused.
 fn number_of(digit: u8) -> u16 {
-    if digit < 48 {
+    if digit < b'0' {
         return UNUSED;
     }
-    (digit - 48) as u16
+    (digit - b'0') as u16
 }
 
-// Number i of a row of digits; past its end the mark.
-fn number_in(digits: &[u8], i: usize) -> u16 {
-    if digits.len() <= i {
-        return MARK;
-    }
-    number_of(digits[i])
-}
-
+// Places past the digits stay as they are.
 pub(crate) fn fill(table: &mut [u16], digits: &[u8]) {
-    for (i, number) in table.iter_mut().enumerate() {
-        *number = number_in(digits, i);
+    for (place, digit) in table.iter_mut().zip(digits) {
+        *place = number_of(*digit);
     }
-}
-
-pub(crate) fn mark(table: &mut [u16]) {
-    fill(table, b"");
 }

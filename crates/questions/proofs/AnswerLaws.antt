@@ -1,65 +1,55 @@
 -- No two answers list alike, so a contract that says what an answer lists fixes the answer: two answers that it allows are equal.
 use Prim.Native.Nat.{ℕ, ◌-◌, ◌≤◌}
-use native.Mathlib.Omega.{arith}
 use mathlib.Core.Path.{◌≡◌, sym, ap, ap₂, ◌∙◌}
 use mathlib.Core.List.{List, [], ◌∷◌}
 use mathlib.Core.Bool.{true, false}
 use lib.ListN.{length}
+use Rattle.std.specs.declared.result.Result.{Result}
+use Rattle.std.specs.declared.result.Result.TheVariants.{Ok, Err}
 use Rattle.mesh.specs.Limits.{out_of_range, references_length}
 use Rattle.mesh.specs.Wood.{colour, is_edge}
 use Rattle.mesh.specs.Reading.{fronts_in, Chain, read_target_of}
 use Rattle.mesh.proofs.Walk.{question_chain, question_stops}
-use Rattle.questions.specs.Answers.{edge_listed, vertex_listed, target_listed}
-use Rattle.questions.specs.declared.answer.EdgeAnswer.{EdgeAnswer}
-use Rattle.questions.specs.declared.answer.EdgeAnswer.TheVariants.{Edge, Refused as RefusedEdge}
-use Rattle.questions.specs.declared.answer.VertexAnswer.{VertexAnswer}
-use Rattle.questions.specs.declared.answer.VertexAnswer.TheVariants.{Vertex, Refused as RefusedVertex}
-use Rattle.questions.specs.declared.answer.TargetAnswer.{TargetAnswer}
-use Rattle.questions.specs.declared.answer.TargetAnswer.TheVariants.{Reached, Refused as RefusedTarget}
+use Rattle.tables.specs.declared.refusal.Refusal.{Refusal}
+use Rattle.tables.specs.Refusal.{number}
+use Rattle.tables.proofs.RefusalLaws.{number_once}
+use Rattle.questions.specs.Answers.{listed, target_listed}
+use Rattle.questions.specs.declared.answer.Reached.{Reached}
 
--- a list of one number is none of more
-one_or_more {ℓ} : {A : Type ℓ} (k a b : ℕ) (rest : List ℕ) → k ∷ [] ≡ a ∷ b ∷ rest → A
-one_or_more k a b rest e = absurd (let z : ◌≡◌ {A = ℕ} 0 1 = cc in omega arith)
+-- two refusals that list alike
+refused_once : {A : Type 0} (r s : Refusal) → number r ∷ [] ≡ number s ∷ [] → ◌≡◌ {A = Result A Refusal} (Err r) (Err s)
+refused_once r s h = let e : number r ≡ number s = cc in ap Err (number_once r s e)
 
-pub edge_listed_once : (a b : EdgeAnswer) → edge_listed a ≡ edge_listed b → a ≡ b
-edge_listed_once (Edge e) (Edge f) h = let s : e ≡ f = cc in ap Edge s
-edge_listed_once (Edge e) (RefusedEdge k) h = one_or_more k 0 e [] (sym h)
-edge_listed_once (RefusedEdge k) (Edge f) h = one_or_more k 0 f [] h
-edge_listed_once (RefusedEdge k) (RefusedEdge m) h = let s : k ≡ m = cc in ap RefusedEdge s
+pub listed_once : (a b : Result ℕ Refusal) → listed a ≡ listed b → a ≡ b
+listed_once (Ok v) (Ok w) h = let e : v ≡ w = cc in ap Ok e
+listed_once (Ok v) (Err s) h = cc
+listed_once (Err r) (Ok w) h = cc
+listed_once (Err r) (Err s) h = refused_once r s h
 
-pub vertex_listed_once : (a b : VertexAnswer) → vertex_listed a ≡ vertex_listed b → a ≡ b
-vertex_listed_once (Vertex v) (Vertex w) h = let s : v ≡ w = cc in ap Vertex s
-vertex_listed_once (Vertex v) (RefusedVertex k) h = one_or_more k 0 v [] (sym h)
-vertex_listed_once (RefusedVertex k) (Vertex w) h = one_or_more k 0 w [] h
-vertex_listed_once (RefusedVertex k) (RefusedVertex m) h = let s : k ≡ m = cc in ap RefusedVertex s
-
-pub target_listed_once : (a b : TargetAnswer) → target_listed a ≡ target_listed b → a ≡ b
-target_listed_once (Reached v r) (Reached w s) h =
-    let p : v ≡ w = cc in
-    let q : r ≡ s = cc in
-    ap₂ Reached p q
-target_listed_once (Reached v r) (RefusedTarget k) h = one_or_more k 0 v (r ∷ []) (sym h)
-target_listed_once (RefusedTarget k) (Reached w s) h = one_or_more k 0 w (s ∷ []) h
-target_listed_once (RefusedTarget k) (RefusedTarget m) h = let s : k ≡ m = cc in ap RefusedTarget s
+pub target_listed_once : (a b : Result Reached Refusal) → target_listed a ≡ target_listed b → a ≡ b
+target_listed_once (Ok v) (Ok w) h =
+    let e : v.vertex ≡ w.vertex = cc in
+    let f : v.reads ≡ w.reads = cc in
+    ap₂ (λ (vertex reads : ℕ). Ok (record { vertex = vertex; reads = reads })) e f
+target_listed_once (Ok v) (Err s) h = cc
+target_listed_once (Err r) (Ok w) h = cc
+target_listed_once (Err r) (Err s) h = refused_once r s h
 
 -- two answers that a contract allows
-pub one_edge : (a b : EdgeAnswer) (x : List ℕ) → edge_listed a ≡ x → edge_listed b ≡ x → a ≡ b
-one_edge a b x p q = edge_listed_once a b (p ∙ sym q)
+pub one_answer : (a b : Result ℕ Refusal) (x : List ℕ) → listed a ≡ x → listed b ≡ x → a ≡ b
+one_answer a b x p q = listed_once a b (p ∙ sym q)
 
-pub one_vertex : (a b : VertexAnswer) (x : List ℕ) → vertex_listed a ≡ x → vertex_listed b ≡ x → a ≡ b
-one_vertex a b x p q = vertex_listed_once a b (p ∙ sym q)
-
-pub one_target : (a b : TargetAnswer) (x : List ℕ) → target_listed a ≡ x → target_listed b ≡ x → a ≡ b
+pub one_target : (a b : Result Reached Refusal) (x : List ℕ) → target_listed a ≡ x → target_listed b ≡ x → a ≡ b
 one_target a b x p q = target_listed_once a b (p ∙ sym q)
 
 -- the reads that a Target answers are the number of edges gone on to, along LeftFront iterated from j
-pub reached_along_chain : (n : ℕ) (refs : List ℕ) (j v reads : ℕ) → target_listed (Reached v reads) ≡ read_target_of n refs j
-    → (reads ≤ n - 2) × Chain n (fronts_in refs) (colour j) j v reads
-reached_along_chain n refs j v reads e = question_chain n refs j v reads (sym e)
+pub reached_along_chain : (n : ℕ) (refs : List ℕ) (j : ℕ) (r : Reached) → target_listed (Ok r) ≡ read_target_of n refs j
+    → (r.reads ≤ n - 2) × Chain n (fronts_in refs) (colour j) j r.vertex r.reads
+reached_along_chain n refs j r e = question_chain n refs j r.vertex r.reads (sym e)
 
 -- and where such a chain is, the answer that the contract allows is its end
-pub reached_chain_back : (n : ℕ) (refs : List ℕ) (j v reads : ℕ) (a : TargetAnswer) → target_listed a ≡ read_target_of n refs j
+pub reached_chain_back : (n : ℕ) (refs : List ℕ) (j : ℕ) (r : Reached) (a : Result Reached Refusal) → target_listed a ≡ read_target_of n refs j
     → out_of_range n ≡ false → length refs ≡ references_length n → is_edge n j ≡ true
-    → reads ≤ n - 2 → Chain n (fronts_in refs) (colour j) j v reads → a ≡ Reached v reads
-reached_chain_back n refs j v reads a e sizes long known l h =
-    target_listed_once a (Reached v reads) (e ∙ question_stops n refs j v reads sizes long known l h)
+    → r.reads ≤ n - 2 → Chain n (fronts_in refs) (colour j) j r.vertex r.reads → a ≡ Ok r
+reached_chain_back n refs j r a e sizes long known l h =
+    target_listed_once a (Ok r) (e ∙ question_stops n refs j r.vertex r.reads sizes long known l h)

@@ -1,39 +1,44 @@
--- Point, case by case as the code meets them.
+-- Point's refusals: what is refused with the number of one of them is refused with that one. And its answer says the number
+-- that its definition says.
 use Prim.Native.Nat.{ℕ}
-use mathlib.Core.Path.{◌≡◌, sym, ◌∙◌}
+use mathlib.Core.Path.{◌≡◌, ap}
 use mathlib.Core.List.{List}
-use mathlib.Core.Bool.{Bool, true, false, ◌&&◌}
 use lib.ListN.{length}
+use lib.Dec.{leb, eqb}
 use lib.Ieee.{Float}
-use lib.Ieee.Scale.{finite}
-use lib.Dec.{leb, ltb, eqb}
+use Rattle.std.specs.declared.result.Result.{Result}
+use Rattle.std.specs.declared.result.Result.TheVariants.{Err}
 use Rattle.mesh.specs.Limits.{out_of_range, coordinates_length}
-use Rattle.mesh.specs.Point.{coordinate, all_finite, point_refusal}
+use Rattle.mesh.specs.Point.{all_finite, point_refusal}
 use Rattle.mesh.proofs.Tests.{by_bool}
-use Rattle.questions.specs.Answers.{point_answer, finite_answer}
-use Rattle.questions.proofs.OrderLaws.{in_order, beyond}
-use Rattle.questions.specs.declared.answer.PointAnswer.TheVariants.{Coordinates, Refused}
+use Rattle.tables.specs.declared.refusal.Refusal.{Refusal}
+use Rattle.tables.specs.declared.refusal.Refusal.TheVariants.{VertexCount, Length, NoVertex, NotFinite}
+use Rattle.tables.specs.Refusal.{number, number_met}
+use Rattle.tables.proofs.RefusalLaws.{number_once}
+use Rattle.questions.specs.declared.answer.Coordinates.{Coordinates}
+use Rattle.questions.specs.Answers.{point_answer}
 
--- by the three coordinates that the code loaded, and what it found of each
-module _ (cs : List Float) (v : ℕ) (x y z : Float) (ex : x ≡ coordinate cs v 0) (ey : y ≡ coordinate cs v 1) (ez : z ≡ coordinate cs v 2) where
-  all_of : (a b c : Bool) → a ≡ finite x → b ≡ finite y → c ≡ finite z → (a && (b && c)) ≡ all_finite cs v
-  unfolding all_finite
-  all_of a b c p q r = rw (p, q, r, ex, ey, ez)
+abbrev refused : Refusal → Result Coordinates Refusal
+refused r = Err r
 
-  module _ (a b c : Bool) (p : a ≡ finite x) (q : b ≡ finite y) (r : c ≡ finite z) where
-    pub all_finite_holds : (a && (b && c)) ≡ true → Coordinates x y z ≡ finite_answer cs v
-    unfolding finite_answer
-    all_finite_holds t = rw (sym (all_of a b c p q r) ∙ t, ex, ey, ez)
+pub by_1 : (r : Refusal) → number r ≡ 1 → refused r ≡ refused VertexCount
+by_1 r e = ap refused (number_once r VertexCount e)
 
-    pub not_finite : (a && (b && c)) ≡ false → Refused 17 ≡ finite_answer cs v
-    unfolding finite_answer
-    not_finite t = rw (sym (all_of a b c p q r) ∙ t)
+pub by_2 : (r : Refusal) → number r ≡ 2 → refused r ≡ refused Length
+by_2 r e = ap refused (number_once r Length e)
 
--- Point in the order of all questions
-pub point_in_order : (n : ℕ) (cs : List Float) (v : ℕ)
-    → in_order Refused n (eqb (length cs) (coordinates_length n)) (ltb v n) 15 (finite_answer cs v) ≡ point_answer n cs v
-unfolding point_answer point_refusal finite_answer
-point_in_order n cs v =
-    rw (beyond n v) (by_bool (out_of_range n) (λ o. rw o)
+pub by_15 : (r : Refusal) → number r ≡ 15 → refused r ≡ refused NoVertex
+by_15 r e = ap refused (number_once r NoVertex e)
+
+pub by_17 : (r : Refusal) → number r ≡ 17 → refused r ≡ refused NotFinite
+by_17 r e = ap refused (number_once r NotFinite e)
+
+pub ruleset by_number = (by_1, by_2, by_15, by_17)
+
+-- the number that Point's answer says
+pub point_met : (n : ℕ) (cs : List Float) (v : ℕ) → number_met (point_answer n cs v) ≡ point_refusal n cs v
+unfolding point_answer point_refusal
+point_met n cs v =
+    by_bool (out_of_range n) (λ o. rw o)
     (λ o. by_bool (eqb (length cs) (coordinates_length n))
-    (λ l. by_bool (leb n v) (λ u. rw (o, l, u)) (λ u. by_bool (all_finite cs v) (λ t. rw (o, l, u, t)) (λ t. rw (o, l, u, t)))) (λ l. rw (o, l))))
+    (λ l. by_bool (leb n v) (λ u. rw (o, l, u)) (λ u. by_bool (all_finite cs v) (λ t. rw (o, l, u, t)) (λ t. rw (o, l, u, t)))) (λ l. rw (o, l)))

@@ -1,108 +1,92 @@
-// LeftBack and RightBack, once for both hands: hand 0 is the left, hand 1 the right.
-ghost use Rattle.std.specs.Prelude.{◌≡◌, ◌+◌, ◌*◌, ◌%◌, ◌<◌, ◌≤◌, length};
-ghost use Rattle.mesh.specs.Limits.{most_vertices};
-ghost use Rattle.mesh.specs.Wood.{source, colour, edge_of};
-ghost use Rattle.mesh.specs.Array.{left, right, hand_at};
-ghost use Rattle.mesh.specs.Reading.{fronts_in, outer_back, bit_of, back_by_front, inner_back, read_back};
-ghost use Rattle.questions.specs.Answers.{edge_listed};
+// LeftBack and RightBack, once for both hands.
+ghost use Rattle.std.specs.Prelude.{◌≡◌};
+ghost use Rattle.mesh.specs.Array.{left, right};
+ghost use Rattle.mesh.specs.Reading.{fronts_in, bytes_in, outer_back, step_of, back_by_front, inner_back, read_back};
+ghost use Rattle.tables.specs.Hand.{hand_meant};
+ghost use Rattle.questions.specs.Answers.{listed, edge_listed, unless_0};
 
-use crate::answer::{EdgeAnswer, edge_answer};
-use crate::load::{byte_at, front_at};
-use crate::order::{has_length, refusal};
-use tables::edge::is_edge;
+use crate::array::{Edge, Served};
+use tables::hand::Hand;
 use tables::limits::MOST_SERVICE;
+use tables::refusal::Refusal;
 
-// LeftBack of 3 and 7 and RightBack of 6 lie on the outer triangle, where the colour rules do not hold; 0 elsewhere.
-fn outer_back(hand: usize, j: usize) -> u16
-    requires { hand < 2 }
-    ensures { result ≡ outer_back (hand_at hand) j }
+// LeftBack of 3 and 7 and RightBack of 6 lie on the outer triangle, where the colour rules do not hold.
+#[tactic(auto, unfolding(mesh::specs::Reading::outer_back))]
+fn outer_back(hand: Hand, j: usize) -> Option<u16>
+    ensures { result ≡ unless_0 (outer_back (hand_meant hand) j) }
 {
-    if hand == 0 {
-        if j == 3 {
-            return 7;
+    match (hand, j) {
+        (Hand::Left, 3) | (Hand::Right, 6) => Some(7),
+        (Hand::Left, 7) => Some(6),
+        _ => None,
+    }
+}
+
+// How many colours on the source's other edge on this hand is.
+fn step_of(hand: Hand) -> usize
+    ensures { result ≡ step_of (hand_meant hand) }
+{
+    match hand {
+        Hand::Left => 1,
+        Hand::Right => 2,
+    }
+}
+
+impl<'a> Edge<'a> {
+    // Back of the edge `of`, whose Front this is.
+    #[tactic(auto, unfolding(mesh::specs::Reading::back_by_front))]
+    fn back_by_front(self, hand: Hand, of: Edge) -> Result<Edge<'a>, Refusal>
+        ensures { edge_listed result ≡ back_by_front (hand_meant hand) self.entry.references.size.vertices (fronts_in self.entry.references.fronts.now) of.entry.index self.entry.index }
+    {
+        let step = step_of(hand);
+        if self.colour() == of.colour() {
+            return self.beside(2 * step);
         }
-        if j == 7 {
-            return 6;
+        if self.colour() == (of.colour() + step) % 3 {
+            return self.front(hand);
         }
-        return 0;
+        Err(Refusal::Torn)
     }
-    if j == 6 { 7 } else { 0 }
 }
 
-// Bit 0 is the left's, bit 1 the right's.
-fn bit(byte: u8, hand: usize) -> u8
-    requires { hand < 2 }
-    ensures { result ≡ bit_of (hand_at hand) byte }
-{
-    (byte >> hand) & 1
+impl<'a> Served<'a> {
+    // Back by the service byte and the colours.
+    #[tactic(auto, unfolding(mesh::specs::Reading::inner_back), using(tables::proofs::RefusalLaws::number_above))]
+    fn inner_back(self, hand: Hand) -> Result<Edge<'a>, Refusal>
+        ensures { edge_listed result ≡ inner_back (hand_meant hand) self.entry.edge.references.size.vertices (fronts_in self.entry.edge.references.fronts.now) (bytes_in self.entry.service.now self.entry.edge.index) self.entry.edge.index }
+    {
+        let byte = self.byte();
+        if MOST_SERVICE < byte {
+            return Err(Refusal::Torn);
+        }
+        if hand.bit(byte) == 1 {
+            return self.edge.beside(step_of(hand));
+        }
+        self.edge.front(hand)?.back_by_front(hand, self.edge)
+    }
 }
 
-// The edge of e's source that is so many colours on.
-fn beside(e: usize, step: usize) -> u16
-    requires { (e < 3 * most_vertices) × (step < 5) }
-    ensures { result ≡ edge_of (source e) ((colour e + step) % 3) }
+// What stands on the outer triangle consults nothing. It takes n and the tables one by one, as its two public callers have to be
+// lent them: so they become one value here.
+#[tactic(auto, unfolding(mesh::specs::Reading::read_back, mesh::specs::Reading::back_answer), using(tables::proofs::RefusalLaws::number_above))]
+fn back(n: usize, references: &[u16], service: &[u8], hand: Hand, j: usize) -> Result<u16, Refusal>
+    ensures { listed result ≡ read_back (hand_meant hand) n references.now service.now j }
 {
-    (3 * (e / 3) + (e % 3 + step) % 3) as u16
+    let served = Served::of(n, references, service, j)?;
+    match outer_back(hand, j) {
+        Some(outer) => Ok(outer),
+        None => Ok(served.inner_back(hand)?.index as u16),
+    }
 }
 
-// Back of j, whose Front is the edge f.
-fn back_by_front(n: usize, references: &[u16], hand: usize, j: usize, f: usize) -> EdgeAnswer
-    requires { (n ≤ most_vertices) × (length references.now ≡ 6 * n) × (hand < 2) × (f < 3 * n) }
-    ensures { edge_listed result ≡ back_by_front (hand_at hand) n (fronts_in references.now) j f }
+pub fn left_back(n: usize, references: &[u16], service: &[u8], j: usize) -> Result<u16, Refusal>
+    ensures { listed result ≡ read_back left n references.now service.now j }
 {
-    let step = 1 + hand;
-    if f % 3 == j % 3 {
-        return edge_answer(n, beside(f, 2 * step));
-    }
-    if f % 3 == (j % 3 + step) % 3 {
-        return edge_answer(n, front_at(references, hand, f));
-    }
-    EdgeAnswer::Refused(16)
+    back(n, references, service, Hand::Left, j)
 }
 
-// Back of j by its service byte and the colours.
-fn inner_back(n: usize, references: &[u16], byte: u8, hand: usize, j: usize) -> EdgeAnswer
-    requires { (n ≤ most_vertices) × (length references.now ≡ 6 * n) × (hand < 2) × (j < 3 * n) }
-    ensures { edge_listed result ≡ inner_back (hand_at hand) n (fronts_in references.now) byte j }
+pub fn right_back(n: usize, references: &[u16], service: &[u8], j: usize) -> Result<u16, Refusal>
+    ensures { listed result ≡ read_back right n references.now service.now j }
 {
-    if MOST_SERVICE < byte {
-        return EdgeAnswer::Refused(16);
-    }
-    if bit(byte, hand) == 1 {
-        return edge_answer(n, beside(j, 1 + hand));
-    }
-    let f = front_at(references, hand, j) as usize;
-    if !is_edge(n, f) {
-        return EdgeAnswer::Refused(16);
-    }
-    back_by_front(n, references, hand, j, f)
-}
-
-// What stands on the outer triangle consults nothing.
-fn back(n: usize, references: &[u16], service: &[u8], hand: usize, j: usize) -> EdgeAnswer
-    requires { hand < 2 }
-    ensures { edge_listed result ≡ read_back (hand_at hand) n references.now service.now j }
-{
-    let fits = has_length(references.len(), 6, n) & has_length(service.len(), 3, n);
-    let number = refusal(n, fits, is_edge(n, j), 14);
-    if number != 0 {
-        return EdgeAnswer::Refused(number);
-    }
-    let outer = outer_back(hand, j);
-    if outer != 0 {
-        return EdgeAnswer::Edge(outer);
-    }
-    inner_back(n, references, byte_at(service, j), hand, j)
-}
-
-pub fn left_back(n: usize, references: &[u16], service: &[u8], j: usize) -> EdgeAnswer
-    ensures { edge_listed result ≡ read_back left n references.now service.now j }
-{
-    back(n, references, service, 0, j)
-}
-
-pub fn right_back(n: usize, references: &[u16], service: &[u8], j: usize) -> EdgeAnswer
-    ensures { edge_listed result ≡ read_back right n references.now service.now j }
-{
-    back(n, references, service, 1, j)
+    back(n, references, service, Hand::Right, j)
 }

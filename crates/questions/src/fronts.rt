@@ -1,32 +1,30 @@
-// LeftFront and RightFront, once for both hands: hand 0 is the left, hand 1 the right.
-ghost use Rattle.std.specs.Prelude.{◌≡◌, ◌<◌};
-ghost use Rattle.mesh.specs.Array.{left, right, hand_at};
+// LeftFront and RightFront, once for both hands.
+ghost use Rattle.std.specs.Prelude.{◌≡◌};
+ghost use Rattle.mesh.specs.Array.{left, right};
 ghost use Rattle.mesh.specs.Reading.{read_front};
-ghost use Rattle.questions.specs.Answers.{edge_listed};
+ghost use Rattle.tables.specs.Hand.{hand_meant};
+ghost use Rattle.questions.specs.Answers.{listed};
 
-use crate::answer::{EdgeAnswer, edge_answer};
-use crate::load::front_at;
-use crate::order::edge_refusal;
+use crate::array::Edge;
+use tables::hand::Hand;
+use tables::refusal::Refusal;
 
-fn front(n: usize, references: &[u16], hand: usize, j: usize) -> EdgeAnswer
-    requires { hand < 2 }
-    ensures { edge_listed result ≡ read_front (hand_at hand) n references.now j }
+#[tactic(auto, unfolding(mesh::specs::Reading::read_front, mesh::specs::Reading::front_answer), using(tables::proofs::RefusalLaws::number_above))]
+fn front(n: usize, references: &[u16], hand: Hand, j: usize) -> Result<u16, Refusal>
+    ensures { listed result ≡ read_front (hand_meant hand) n references.now j }
 {
-    let number = edge_refusal(n, references, j);
-    if number != 0 {
-        return EdgeAnswer::Refused(number);
-    }
-    edge_answer(n, front_at(references, hand, j))
+    let edge = Edge::of(n, references, j)?;
+    Ok(edge.front(hand)?.index as u16)
 }
 
-pub fn left_front(n: usize, references: &[u16], j: usize) -> EdgeAnswer
-    ensures { edge_listed result ≡ read_front left n references.now j }
+pub fn left_front(n: usize, references: &[u16], j: usize) -> Result<u16, Refusal>
+    ensures { listed result ≡ read_front left n references.now j }
 {
-    front(n, references, 0, j)
+    front(n, references, Hand::Left, j)
 }
 
-pub fn right_front(n: usize, references: &[u16], j: usize) -> EdgeAnswer
-    ensures { edge_listed result ≡ read_front right n references.now j }
+pub fn right_front(n: usize, references: &[u16], j: usize) -> Result<u16, Refusal>
+    ensures { listed result ≡ read_front right n references.now j }
 {
-    front(n, references, 1, j)
+    front(n, references, Hand::Right, j)
 }

@@ -2,10 +2,11 @@
 #![tactic(auto)]
 
 pub mod answer;
+mod array;
 pub mod backs;
+mod edge;
 pub mod ends;
 pub mod fronts;
-mod load;
 mod order;
 pub mod point;
 pub mod walk;

@@ -1,48 +1,31 @@
 // Point: the three coordinates of a vertex, where they are finite.
-ghost use Rattle.std.specs.Prelude.{◌≡◌, ◌+◌, ◌*◌, ◌<◌, ◌≤◌, length};
-ghost use Rattle.std.specs.Float.Ieee.Scale.{finite};
-ghost use Rattle.mesh.specs.Point.{coordinate};
-ghost use Rattle.questions.specs.Answers.{point_answer, finite_answer};
+ghost use Rattle.std.specs.Prelude.{◌≡◌, ◌+◌, ◌*◌, ◌≤◌, length};
+ghost use Rattle.questions.specs.Answers.{coordinates_of, point_answer};
 
-use crate::answer::PointAnswer;
-use crate::order::{has_length, refusal};
+use crate::answer::Coordinates;
+use crate::order::known_vertex;
+use tables::refusal::{Refusal, refuse_if};
+use tables::size::Size;
 
-// Neither an infinity nor a NaN: the difference of a number with itself is 0, and of anything else a NaN.
-fn is_finite(x: f32) -> bool
-    ensures { result ≡ finite x }
-{
-    x - x == 0.0
-}
-
-// Coordinate k of vertex v.
-fn coordinate_at(coordinates: &[f32], v: usize, k: usize) -> f32
-    requires { 3 * v + k < length coordinates.now }
-    ensures { result ≡ coordinate coordinates.now v k }
-{
-    coordinates[3 * v + k]
-}
-
-// What is answered once 1, 2 and 15 are past.
-fn finite_answer(coordinates: &[f32], v: usize) -> PointAnswer
+fn coordinates_at(coordinates: &[f32], v: usize) -> Coordinates
     requires { 3 * v + 3 ≤ length coordinates.now }
-    ensures { result ≡ finite_answer coordinates.now v }
+    ensures { result ≡ coordinates_of coordinates.now v }
 {
-    let x = coordinate_at(coordinates, v, 0);
-    let y = coordinate_at(coordinates, v, 1);
-    let z = coordinate_at(coordinates, v, 2);
-    if is_finite(x) & (is_finite(y) & is_finite(z)) {
-        return PointAnswer::Coordinates { x, y, z };
+    Coordinates {
+        x: coordinates[3 * v],
+        y: coordinates[3 * v + 1],
+        z: coordinates[3 * v + 2],
     }
-    PointAnswer::Refused(17)
 }
 
-pub fn point(n: usize, coordinates: &[f32], v: usize) -> PointAnswer
+#[tactic(auto, unfolding(crate::specs::Answers::point_answer, mesh::specs::Point::point_refusal, mesh::specs::Point::all_finite), using(crate::proofs::PointLaws::by_number, tables::proofs::RefusalLaws::number_above))]
+pub fn point(n: usize, coordinates: &[f32], v: usize) -> Result<Coordinates, Refusal>
     ensures { result ≡ point_answer n coordinates.now v }
 {
-    let fits = has_length(coordinates.len(), 3, n);
-    let number = refusal(n, fits, v < n, 15);
-    if number != 0 {
-        return PointAnswer::Refused(number);
-    }
-    finite_answer(coordinates, v)
+    let size = Size::of(n)?;
+    refuse_if(coordinates.len() != 3 * size.vertices, Refusal::Length)?;
+    known_vertex(n, v)?;
+    let found = coordinates_at(coordinates, v);
+    refuse_if(!found.are_finite(), Refusal::NotFinite)?;
+    Ok(found)
 }

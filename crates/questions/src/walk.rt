@@ -1,82 +1,66 @@
 // Target: from an edge on by LeftFront, round the vertex that it ends at, until an edge that tells the vertex.
-ghost use Rattle.std.specs.Prelude.{◌≡◌, ◌*◌, ◌<◌, length};
-ghost use Rattle.mesh.specs.Limits.{most_vertices, InRange};
+ghost use Rattle.std.specs.Prelude.{◌≡◌};
+ghost use Rattle.mesh.specs.Wood.{colour};
 ghost use Rattle.mesh.specs.Reading.{fronts_in, stop_at, target_answer, read_target_of};
 ghost use Rattle.questions.specs.Stops.{stop_meant};
 ghost use Rattle.questions.specs.Answers.{target_listed};
 
-use crate::answer::TargetAnswer;
-use crate::load::front_at;
-use crate::order::edge_refusal;
-use tables::edge::is_edge;
+use crate::answer::Reached;
+use crate::array::Edge;
+use tables::hand::Hand;
+use tables::refusal::Refusal;
 
-// What a walk does at an edge.
-#[derive(Clone, Copy)]
-pub(crate) enum Stop {
-    AtVertex(u16),
-    GoOn,
-    Torn,
-}
+impl<'a> Edge<'a> {
+    // The vertex where a walk from `start` ends at this edge, and none where it goes on. Edges 3 and 7 come first: on the outer
+    // triangle the colours do not tell the vertex.
+    #[tactic(auto, unfolding(mesh::specs::Reading::stop_at))]
+    fn stop_from(self, start: Edge) -> Result<Option<u16>, Refusal>
+        ensures { result ≡ stop_meant (stop_at (colour start.entry.index) self.entry.index) }
+    {
+        if self.index == 3 {
+            return Ok(Some(0));
+        }
+        if self.index == 7 {
+            return Ok(Some(1));
+        }
+        if self.colour() == (start.colour() + 1) % 3 {
+            return Ok(Some((self.index / 3) as u16));
+        }
+        if self.colour() == start.colour() {
+            return Ok(None);
+        }
+        Err(Refusal::Torn)
+    }
 
-// Edges 3 and 7 come first: on the outer triangle the colours do not tell the vertex.
-fn stop_at(c: usize, e: usize) -> Stop
-    requires { (c < 3) × (e < 3 * most_vertices) }
-    ensures { stop_meant result ≡ stop_at c e }
-{
-    if e == 3 {
-        return Stop::AtVertex(0);
-    }
-    if e == 7 {
-        return Stop::AtVertex(1);
-    }
-    if e % 3 == (c + 1) % 3 {
-        return Stop::AtVertex((e / 3) as u16);
-    }
-    if e % 3 == c {
-        return Stop::GoOn;
-    }
-    Stop::Torn
-}
-
-// Target of edge j, on any references of the right length.
-fn walk_on(n: usize, references: &[u16], j: usize) -> TargetAnswer
-    requires { InRange n × (length references.now ≡ 6 * n) × (j < 3 * n) }
-    ensures { target_listed result ≡ target_answer n (fronts_in references.now) j }
-{
-    let c = j % 3;
-    let mut e = j;
-    let mut more = n - 2;
-    let mut reads: u16 = 0;
-    loop {
-        let stop = stop_at(c, e);
-        match stop {
-            Stop::AtVertex(vertex) => {
-                return TargetAnswer::Reached { vertex, reads };
+    // Its target, by at most n - 2 reads.
+    #[tactic(auto, unfolding(mesh::specs::Reading::target_answer, mesh::specs::Reading::edge_answer), using(crate::proofs::WalkLaws::turns, tables::proofs::RefusalLaws::number_above))]
+    fn target(self) -> Result<Reached, Refusal>
+        ensures { target_listed result ≡ target_answer self.entry.references.size.vertices (fronts_in self.entry.references.fronts.now) self.entry.index }
+    {
+        let most = self.references.size.vertices - 2;
+        let mut edge = self;
+        for reads in 0..most {
+            if let Some(vertex) = edge.stop_from(self)? {
+                return Ok(Reached {
+                    vertex,
+                    reads: reads as u16,
+                });
             }
-            Stop::Torn => {
-                return TargetAnswer::Refused(16);
-            }
-            Stop::GoOn => {}
+            edge = edge.front(Hand::Left)?;
         }
-        if more == 0 {
-            return TargetAnswer::Refused(16);
+        match edge.stop_from(self)? {
+            Some(vertex) => Ok(Reached {
+                vertex,
+                reads: most as u16,
+            }),
+            None => Err(Refusal::Torn),
         }
-        let f = front_at(references, 0, e) as usize;
-        if !is_edge(n, f) {
-            return TargetAnswer::Refused(16);
-        }
-        e = f;
-        more -= 1;
-        reads += 1;
     }
 }
 
-pub fn target(n: usize, references: &[u16], j: usize) -> TargetAnswer
+#[tactic(auto, unfolding(mesh::specs::Reading::read_target_of), using(tables::proofs::RefusalLaws::number_above))]
+pub fn target(n: usize, references: &[u16], j: usize) -> Result<Reached, Refusal>
     ensures { target_listed result ≡ read_target_of n references.now j }
 {
-    let number = edge_refusal(n, references, j);
-    if number != 0 {
-        return TargetAnswer::Refused(number);
-    }
-    walk_on(n, references, j)
+    Edge::of(n, references, j)?.target()
 }

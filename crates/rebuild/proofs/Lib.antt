@@ -1,8 +1,6 @@
 -- Laws of the rebuild, by what they are about.
 
--- Decoding: the wood by Target, the triangle at a place, the table that they are written to.
-pub mod TargetLaws
-pub mod BesideLaws
+-- The table that the decoded triangles are written to.
 pub mod WritingLaws
 -- The mesh built anew and compared; the ends of a rebuild, and that its contract fixes them.
 pub mod VerifyLaws

@@ -1,68 +1,78 @@
 -- The table that a running cursor leaves: one place more of the references, written or not, and what stands there at the end.
-use Prim.Native.Nat.{ℕ, suc, ◌+◌, ◌*◌, ◌/◌, ◌≤◌, ◌<◌}
-use native.Mathlib.Numerals.{add-one}
+use Prim.Native.Nat.{ℕ, ◌+◌, ◌*◌, ◌/◌, ◌≤◌, ◌<◌}
 use native.Mathlib.Omega.{arith}
 use mathlib.Core.Path.{◌≡◌, sym, ap, ◌∙◌}
-use mathlib.Core.List.{List, [], ◌∷◌, ◌++◌, append-nil}
-use mathlib.Core.Bool.{true, false}
-use lib.ListN.{length, get_or, set, length-append}
-use lib.Seq.{sets, drop-length}
+use mathlib.Core.List.{List, ◌++◌, append-nil}
+use mathlib.Core.Bool.{Bool, true, false, cond, not}
+use lib.ListN.{length, take, length-append}
+use lib.Seq.{take_all, length-take-le}
 use lib.Dec.{eqb}
 use borrow.Author.Tests.{ne_eqb, eqb-true}
+use borrow.Rule.Slice.PartMut.{put_mid}
+use Rattle.std.proofs.lemmas.Slice.{take-put_mid}
 use Rattle.mesh.specs.Search.{gather}
-use Rattle.mesh.specs.Array.{hand_at}
+use Rattle.mesh.specs.Array.{Hand, hand_at}
 use Rattle.mesh.specs.Rebuild.{triangle_beside, written_at, triangles_from}
-use Rattle.mesh.proofs.Lists.{gather_more, gather_grows, laid, laid_more}
+use Rattle.mesh.proofs.Tests.{by_bool}
+use Rattle.mesh.proofs.Lists.{gather_more, gather_grows}
 use Rattle.mesh.proofs.Written.{writes, length_beside, written_here, written_none}
 use Rattle.rebuild.specs.Decode.{Decoded}
 
--- three corners written one after the other
-pub three_sets : (l : List ℕ) (i : ℕ) (cs : List ℕ) → length cs ≡ 3
-    → set (set (set l i (get_or cs 0 0)) (i + 1) (get_or cs 1 0)) (i + 2) (get_or cs 2 0) ≡ sets l i cs
-three_sets l i [] e = absurd (omega arith)
-three_sets l i (a ∷ []) e = absurd (omega arith)
-three_sets l i (a ∷ b ∷ []) e = absurd (omega arith)
-three_sets l i (a ∷ b ∷ c ∷ []) e = let z : i + 2 ≡ suc (suc i) = omega arith in rw (add-one i, z)
-three_sets l i (a ∷ b ∷ c ∷ d ∷ cs) e = absurd (omega arith)
+-- before place i the table's front, up to the cursor, is what the places so far have written
+pub record Written (refs ws ts : List ℕ) (i cursor : ℕ) : Type 0 where
+  pub within : cursor ≤ length ts
+  pub front : take cursor ts ≡ gather (written_at refs ws) i
 
-module _ (refs ws : List ℕ) (i : ℕ) where
-  pub unwritten_more : writes refs ws i ≡ false → gather (written_at refs ws) i ≡ gather (written_at refs ws) (i + 1)
-  unwritten_more t = sym (gather_more (written_at refs ws) i ∙ rw (written_none refs ws i t) (append-nil (gather (written_at refs ws) i)))
+-- the triangle at place i, by its tables, its edge and its hand
+pub triangle_placed : (refs ws refs' ws' : List ℕ) (j i : ℕ) (h : Hand) (cs : List ℕ) → (refs' ≡ refs) × (ws' ≡ ws) → j ≡ i / 2 → h ≡ hand_at i
+    → cs ≡ triangle_beside h refs' ws' j → cs ≡ triangle_beside (hand_at i) refs ws (i / 2)
+triangle_placed refs ws refs' ws' j i h cs t e g k = rw (t.0, t.1, e, g) at k
+
+module _ (refs ws ts : List ℕ) (i cursor : ℕ) (W : Written refs ws ts i cursor) where
+  cursor_is : cursor ≡ length (gather (written_at refs ws) i)
+  cursor_is = sym (length-take-le cursor ts W.within) ∙ ap length W.front
+
+  pub unwritten_more : writes refs ws i ≡ false → Written refs ws ts (i + 1) cursor
+  unwritten_more t = record {
+    within = W.within;
+    front = W.front ∙ sym (gather_more (written_at refs ws) i ∙ rw (written_none refs ws i t) (append-nil (gather (written_at refs ws) i)));
+  }
 
   module _ (t : writes refs ws i ≡ true) where
-    written_more : gather (written_at refs ws) (i + 1) ≡ gather (written_at refs ws) i ++ triangle_beside (hand_at i) refs ws (i / 2)
-    written_more = gather_more (written_at refs ws) i ∙ ap (λ (l : List ℕ). gather (written_at refs ws) i ++ l) (written_here refs ws i t)
+    written_then : gather (written_at refs ws) (i + 1) ≡ gather (written_at refs ws) i ++ triangle_beside (hand_at i) refs ws (i / 2)
+    written_then = gather_more (written_at refs ws) i ∙ ap (λ (l : List ℕ). gather (written_at refs ws) i ++ l) (written_here refs ws i t)
 
-    pub three_more : length (gather (written_at refs ws) (i + 1)) ≡ length (gather (written_at refs ws) i) + 3
-    three_more =
-        ap length written_more ∙ length-append (gather (written_at refs ws) i) (triangle_beside (hand_at i) refs ws (i / 2)) ∙
-        ap (λ (m : ℕ). length (gather (written_at refs ws) i) + m) (length_beside (hand_at i) refs ws (i / 2))
+    pub written_more : (k : ℕ) (cs ts' : List ℕ) → cs ≡ triangle_beside (hand_at i) refs ws (i / 2) → ts' ≡ put_mid cursor k ts cs → length ts' ≡ length ts
+        → cursor + 3 ≤ length ts → Written refs ws ts' (i + 1) (cursor + 3)
+    written_more k cs ts' e p l room =
+        let m : length cs ≡ 3 = ap length e ∙ length_beside (hand_at i) refs ws (i / 2) in
+        record {
+          within = omega (arith, l);
+          front = ap (take (cursor + 3)) p ∙ take-put_mid cursor k ts cs (cursor + 3) (omega (arith, m)) W.within ∙ rw (W.front, e) (sym written_then);
+        }
 
-    pub written_laid : (old out cs : List ℕ) (cursor : ℕ) → cs ≡ triangle_beside (hand_at i) refs ws (i / 2) → cursor ≡ length (gather (written_at refs ws) i)
-        → cursor + 3 ≤ length old → out ≡ laid (gather (written_at refs ws) i) old → sets out cursor cs ≡ laid (gather (written_at refs ws) (i + 1)) old
-    written_laid old out cs cursor e f h o =
-        let l = length_beside (hand_at i) refs ws (i / 2) in
-        rw (e, f, o) (laid_more (gather (written_at refs ws) i) (triangle_beside (hand_at i) refs ws (i / 2)) old (omega arith) ∙
-        ap (λ (g : List ℕ). laid g old) (sym written_more))
-
-    pub written_past : (n : ℕ) (old : List ℕ) → i < 6 * n → length old < length (gather (written_at refs ws) i) + 3
-        → false ≡ eqb (length (triangles_from n refs ws)) (length old)
+    -- no room for one more
+    pub written_past : (n : ℕ) → i < 6 * n → length ts < cursor + 3 → ◌≡◌ {A = ℕ} 18 (cond (eqb (length (triangles_from n refs ws)) (length ts)) 0 18)
     unfolding triangles_from
-    written_past n old l g =
-        let a = three_more in
-        let b = gather_grows (written_at refs ws) (i + 1) (6 * n) (omega arith) in
-        sym (ne_eqb (length (gather (written_at refs ws) (6 * n))) (length old) (λ e. omega arith))
+    written_past n l g =
+        let a = ap length written_then ∙ length-append (gather (written_at refs ws) i) (triangle_beside (hand_at i) refs ws (i / 2)) in
+        let b = length_beside (hand_at i) refs ws (i / 2) in
+        let m = gather_grows (written_at refs ws) (i + 1) (6 * n) (omega arith) in
+        rw (ne_eqb (length (gather (written_at refs ws) (6 * n))) (length ts) (λ e. let c = cursor_is in omega arith))
 
--- what the cursor and the table say at the end
-module _ (n : ℕ) (refs ws old : List ℕ) where
-  laid_all : (new : List ℕ) → length new ≡ length old → laid new old ≡ new
-  unfolding laid
-  laid_all new e = rw (e, drop-length old) (append-nil new)
-
-  pub decoded_end : (i cursor : ℕ) (new : List ℕ) → i ≡ 6 * n → cursor ≡ length (gather (written_at refs ws) i) → new ≡ laid (gather (written_at refs ws) i) old
-      → Decoded n refs ws old (eqb cursor (length old)) new
+  -- what the cursor and the table say at the end
+  pub decoded_end : (n k : ℕ) (old : List ℕ) → i ≡ 6 * n → length ts ≡ length old → k ≡ cond (not (eqb cursor (length ts))) 18 0 → Decoded n refs ws old k ts
   unfolding triangles_from
-  decoded_end i cursor new e f g = record {
-    exact = ap (λ (m : ℕ). eqb m (length old)) (f ∙ ap (λ (k : ℕ). length (gather (written_at refs ws) k)) e);
-    table = λ t. g ∙ laid_all (gather (written_at refs ws) i) (sym f ∙ eqb-true cursor (length old) t) ∙ ap (gather (written_at refs ws)) e;
-  }
+  decoded_end n k old e l h =
+      let c : cursor ≡ length (gather (written_at refs ws) (6 * n)) = cursor_is ∙ ap (λ (j : ℕ). length (gather (written_at refs ws) j)) e in
+      let b : Bool = eqb (length (gather (written_at refs ws) (6 * n))) (length old) in
+      let s : k ≡ cond b 0 18 = h ∙ rw (c, l) (by_bool b (λ t. rw t) (λ t. rw t)) in
+      record {
+        exact = s;
+        table = λ z.
+            by_bool b
+            (λ t.
+            let g = eqb-true (length (gather (written_at refs ws) (6 * n))) (length old) t in
+            sym (take_all cursor ts (omega (arith, c, l))) ∙ W.front ∙ ap (gather (written_at refs ws)) e)
+            (λ f. absurd (let y : k ≡ 18 = s ∙ rw f in omega arith));
+      }

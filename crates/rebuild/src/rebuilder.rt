@@ -1,41 +1,56 @@
 // A rebuild: decode into the outputs, then check that mesh and compare its references with those given.
-ghost use Rattle.rebuild.specs.Decode.{RightSizes, MeshDecoded};
-ghost use Rattle.rebuild.specs.Rebuild.{Rebuild};
+ghost use Rattle.std.specs.Prelude.{◌≡◌, length};
+ghost use Rattle.mesh.specs.Limits.{triangles_length, wood_length};
+ghost use Rattle.tables.specs.Refusal.{number_met};
+ghost use Rattle.rebuild.specs.Decode.{MeshDecoded};
+ghost use Rattle.rebuild.specs.Rebuild.{rebuild_lengths, Rebuild};
 
-use crate::targets::decode_wood;
-use crate::verify::verified;
+use crate::targets::Given;
+use crate::verify::verify;
 use crate::writing::decode_triangles;
-use tables::limits::out_of_range;
-use tables::outcome::Outcome;
+use tables::refusal::{Refusal, refuse_if};
+use tables::size::Size;
 use tables::table::mark_all;
 
-// Decodes into both outputs; whether an accepted mesh with these references is in them.
-fn decode_mesh(n: usize, references: &[u16], wood: &mut [u16], triangles: &mut [u16]) -> bool
-    requires { RightSizes n references.now wood.old triangles.old }
-    ensures { MeshDecoded n references.now result wood.new triangles.new }
+#[tactic(auto, unfolding(crate::specs::Rebuild::rebuild_lengths))]
+fn lengths_fit(size: Size, references: &[u16], wood: &[u16], triangles: &[u16]) -> bool
+    ensures { result ≡ rebuild_lengths size.vertices references.now wood.now triangles.now }
 {
-    decode_wood(n, references, wood);
-    if !decode_triangles(n, references, wood, triangles) {
-        return false;
-    }
-    verified(n, triangles, wood, references)
+    references.len() == size.references()
+        && wood.len() == size.edges()
+        && triangles.len() == size.corners()
+}
+
+// Decodes into both outputs; refuses where no accepted mesh with these references is then in them. They are lent apart: each stage writes
+// another of them.
+fn decode_mesh(given: Given, wood: &mut [u16], triangles: &mut [u16]) -> Result<(), Refusal>
+    requires { (length wood.old ≡ wood_length given.size.vertices) × (length triangles.old ≡ triangles_length given.size.vertices) }
+    ensures { MeshDecoded given.entry.size.vertices given.entry.references.now (number_met result) wood.new triangles.new }
+{
+    given.decode_wood(wood);
+    decode_triangles(given, wood, triangles)?;
+    verify(given, triangles, wood)
 }
 
 // The mesh whose references these are. What was decoded of a refused array is overwritten by the mark.
-pub fn rebuild(n: usize, references: &[u16], wood: &mut [u16], triangles: &mut [u16]) -> Outcome
+pub fn rebuild(
+    n: usize,
+    references: &[u16],
+    wood: &mut [u16],
+    triangles: &mut [u16],
+) -> Result<(), Refusal>
     ensures { Rebuild n references.now wood.old triangles.old result wood.new triangles.new }
 {
-    if out_of_range(n) {
-        return Outcome::Refused(1);
+    let size = Size::of(n)?;
+    refuse_if(
+        !lengths_fit(size, references, wood, triangles),
+        Refusal::Length,
+    )?;
+    let given = Given { size, references };
+    let decoded = decode_mesh(given, wood, triangles);
+    if decoded.is_err() {
+        mark_all(wood);
+        mark_all(triangles);
     }
-    let outputs_fit = (wood.len() == 3 * n) & (triangles.len() == 6 * n - 12);
-    if !((references.len() == 6 * n) & outputs_fit) {
-        return Outcome::Refused(2);
-    }
-    if decode_mesh(n, references, wood, triangles) {
-        return Outcome::Done;
-    }
-    mark_all(wood);
-    mark_all(triangles);
-    Outcome::Refused(18)
+    decoded
 }

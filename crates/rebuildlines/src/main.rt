@@ -2,9 +2,10 @@
 #![tactic(auto)]
 
 use arraytext::{ARRAY_LIMIT, MESH_LIMIT};
-use frames::Put;
 use std::io;
 
+// The three programs on text have a `main` each: a shared one would be public and take the answer as a closure, and so require that it
+// may be called; it would save five lines of ten.
 fn main(rt: HostRuntime) -> io::Result<()> {
     // One byte more than the longest array's text, so that a longer one shows.
     let mut text = [0u8; ARRAY_LIMIT + 1];
@@ -12,7 +13,7 @@ fn main(rt: HostRuntime) -> io::Result<()> {
     let mut out = [0u8; MESH_LIMIT];
     let put = arraytext::rebuild_lines(&text[..read], &mut out);
     // The buffer has room for the longest output, so it is never refused.
-    if let Put::Done(length) = put {
+    if let Ok(length) = put {
         rt.write_all(&out[..length])?;
     }
     Ok(())

@@ -17,6 +17,7 @@ pub fn read_full<R: Read>(reader: &mut R, buf: &mut [u8]) -> io::Result<usize>
     ensures err { OnErr result ((n : ℕ) × (n ≤ length buf.new) × Consumes (R.remaining reader.old) (R.remaining reader.new) (take n buf.new)) }
 {
     let mut done: usize = 0;
+    // Not counted one by one: a read gives as many bytes as it likes.
     while done < buf.len() {
         let count = reader.read(&mut buf[done..])?;
         if count == 0 {

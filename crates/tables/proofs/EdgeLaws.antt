@@ -1,24 +1,22 @@
--- The cases of "used", of the colour of an edge and of the edge that joins two vertices, as the code meets them.
+-- "Used", the label of two vertices by what the two searches for a colour found, and the edge that joins them, as the code meets them.
 use Prim.Native.Nat.{ℕ, ◌+◌, ◌*◌, ◌/◌, ◌≤◌, ◌<◌}
-use mathlib.Core.Path.{◌≡◌, sym, ◌∙◌}
+use mathlib.Core.Path.{◌≡◌, sym, ap, subst, ◌∙◌}
 use mathlib.Core.List.{List}
-use mathlib.Core.Bool.{true, ◌||◌}
-use mathlib.Core.Logic.{◌≢◌}
+use mathlib.Core.Bool.{true}
 use native.Mathlib.Omega.{arith}
 use lib.Dec.{ltb, eqb}
-use borrow.Author.Tests.{le-leb, lt-leb, lt-ltb, le-ltb, eq-eqb, ne_eqb, ltb-true, ltb-false}
-use Rattle.mesh.specs.Search.{first, first_from}
+use borrow.Author.Tests.{le-leb, lt-ltb, le-ltb, eq-eqb, ltb-true, ltb-false}
 use Rattle.mesh.specs.Limits.{unused_mark, most_vertices}
-use Rattle.mesh.specs.Wood.{target, used, colour_to, out, into, bare, label_of, edge_at}
+use Rattle.mesh.specs.Wood.{target, edge_of, used, colour_to, Label, out, into, bare, label_of, edge_at}
+use Rattle.mesh.specs.Search.{first, first_from}
+use Rattle.mesh.proofs.Search.{first_none, lowest_found, lowest_found_none}
+use Rattle.std.specs.declared.option.Option.TheVariants.{Some, None}
+use Rattle.tables.specs.Edge.{colour_between}
 use Rattle.mesh.proofs.Tests.{by_bool}
 
 pub used_inner : (j : ℕ) → 9 ≤ j → used j ≡ true
 unfolding used
 used_inner j l = rw (le-leb 9 j l)
-
-pub used_low : (j : ℕ) → j < 9 → used j ≡ (eqb j 3 || (eqb j 6 || eqb j 7))
-unfolding used
-used_low j l = rw (lt-leb 9 j l)
 
 -- an index is below 3n exactly when the vertex that it leaves is below n
 pub leaves_below : (n j : ℕ) → ltb (j / 3) n ≡ ltb j (3 * n)
@@ -30,26 +28,6 @@ module _ (ws : List ℕ) (a b : ℕ) where
   pub colour_0 : target ws (3 * a) ≡ b → colour_to ws a b ≡ 0
   unfolding colour_to first first_from
   colour_0 e = let z : 3 * a + 0 ≡ 3 * a = omega arith in rw (z, eq-eqb (target ws (3 * a)) b e)
-
-  module _ (n0 : target ws (3 * a) ≢ b) where
-    pub colour_1 : target ws (3 * a + 1) ≡ b → colour_to ws a b ≡ 1
-    unfolding colour_to first first_from
-    colour_1 e =
-        let z : 3 * a + 0 ≡ 3 * a = omega arith in
-        rw (z, ne_eqb (target ws (3 * a)) b n0, eq-eqb (target ws (3 * a + 1)) b e)
-
-    module _ (n1 : target ws (3 * a + 1) ≢ b) where
-      pub colour_2 : target ws (3 * a + 2) ≡ b → colour_to ws a b ≡ 2
-      unfolding colour_to first first_from
-      colour_2 e =
-          let z : 3 * a + 0 ≡ 3 * a = omega arith in
-          rw (z, ne_eqb (target ws (3 * a)) b n0, ne_eqb (target ws (3 * a + 1)) b n1, eq-eqb (target ws (3 * a + 2)) b e)
-
-      pub colour_none : target ws (3 * a + 2) ≢ b → colour_to ws a b ≡ 3
-      unfolding colour_to first first_from
-      colour_none n2 =
-          let z : 3 * a + 0 ≡ 3 * a = omega arith in
-          rw (z, ne_eqb (target ws (3 * a)) b n0, ne_eqb (target ws (3 * a + 1)) b n1, ne_eqb (target ws (3 * a + 2)) b n2)
 
   pub label_out : colour_to ws a b < 3 → label_of ws a b ≡ out (colour_to ws a b)
   unfolding label_of
@@ -86,17 +64,46 @@ module _ (ws : List ℕ) (a b : ℕ) where
       (λ u. let k : colour_to ws b a < 3 = ltb-true (colour_to ws b a) 3 u in omega (arith, edge_into h k))
       (λ u. let k : 3 ≤ colour_to ws b a = ltb-false (colour_to ws b a) 3 u in omega (arith, edge_none h k)))
 
--- the same by the numbers that the code found
-module _ (ws : List ℕ) (a b k : ℕ) where
-  pub found_out : k ≡ colour_to ws a b → k < 3 → 3 * a + k ≡ edge_at ws a b
-  found_out e l = let g : colour_to ws a b < 3 = omega arith in let z = edge_out ws a b g in omega arith
+-- what a search for the colour found
+module _ (ws : List ℕ) (a b : ℕ) where
+  between_some : (k : ℕ) → colour_between ws a b ≡ Some k → (k ≡ colour_to ws a b) × (k < 3)
+  unfolding colour_to
+  between_some k e = lowest_found _ 3 k e
 
-  pub found_into : (m : ℕ) → m ≡ colour_to ws a b → 3 ≤ m → k ≡ colour_to ws b a → k < 3 → 3 * b + k ≡ edge_at ws a b
-  found_into m d h e l =
-      let i : 3 ≤ colour_to ws a b = omega arith in
-      let g : colour_to ws b a < 3 = omega arith in
-      let z = edge_into ws a b i g in
-      omega arith
+  between_none : colour_between ws a b ≡ None → 3 ≤ colour_to ws a b
+  unfolding colour_to
+  between_none e = let f = first_none (λ c. eqb (target ws (edge_of a c)) b) 3 (lowest_found_none _ 3 e) in omega arith
 
-  pub found_none : (m : ℕ) → m ≡ colour_to ws a b → 3 ≤ m → k ≡ colour_to ws b a → 3 ≤ k → unused_mark ≡ edge_at ws a b
-  found_none m d h e l = sym (edge_none ws a b (omega arith) (omega arith))
+-- a label's colour
+abbrev pub label_colour : Label → ℕ
+label_colour (out c) = c
+label_colour (into c) = c
+label_colour bare = 0
+
+-- the label by what both searches found
+module _ (ws : List ℕ) (a b : ℕ) where
+  pub found_out : (k : ℕ) → colour_between ws a b ≡ Some k → out k ≡ label_of ws a b
+  found_out k e =
+      let f = between_some ws a b k e in
+      ap out f.0 ∙ sym (label_out ws a b (omega (arith, f.0, f.1)))
+
+  pub found_into : (k : ℕ) → colour_between ws a b ≡ None → colour_between ws b a ≡ Some k → into k ≡ label_of ws a b
+  found_into k n e =
+      let f = between_some ws b a k e in
+      ap into f.0 ∙ sym (label_into ws a b (between_none ws a b n) (omega (arith, f.0, f.1)))
+
+  pub found_bare : colour_between ws a b ≡ None → colour_between ws b a ≡ None → bare ≡ label_of ws a b
+  found_bare n m = sym (label_bare ws a b (between_none ws a b n) (between_none ws b a m))
+
+  -- it is one of three
+  pub label_small : label_colour (label_of ws a b) < 3
+  unfolding label_of
+  label_small =
+      by_bool (ltb (colour_to ws a b) 3) (λ t. rw t (ltb-true (colour_to ws a b) 3 t))
+      (λ t. rw t (by_bool (ltb (colour_to ws b a) 3) (λ u. rw u (ltb-true (colour_to ws b a) 3 u)) (λ u. rw u (omega arith))))
+
+  pub colour_out : (k : ℕ) → out k ≡ label_of ws a b → k < 3
+  colour_out k e = subst (λ l. label_colour l < 3) (sym e) label_small
+
+  pub colour_into : (k : ℕ) → into k ≡ label_of ws a b → k < 3
+  colour_into k e = subst (λ l. label_colour l < 3) (sym e) label_small

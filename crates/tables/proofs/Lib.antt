@@ -1,8 +1,9 @@
 -- Laws for whoever proves something over the shared tables.
 pub mod EdgeLaws
-pub mod TriangleLaws
-pub mod OutcomeLaws
+pub mod RefusalLaws
 pub mod CheckedLaws
+pub mod SidedLaws
 pub mod TableLaws
 pub mod HandLaws
-pub mod PaintLaws
+pub mod FillLaws
+pub mod RungLaws

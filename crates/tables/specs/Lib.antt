@@ -1,5 +1,9 @@
 -- What the contracts of the shared crate, and of those above it, cite beside crate mesh's definitions.
-pub mod Outcome
+pub mod Refusal
+pub mod Hand
 pub mod Corners
 pub mod Turning
 pub mod Checked
+pub mod Table
+pub mod Edge
+pub mod Label

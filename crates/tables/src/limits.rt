@@ -20,11 +20,9 @@ pub const MOST_EDGES: usize = 3 * MOST_VERTICES;
 pub const MOST_REFERENCES: usize = 6 * MOST_VERTICES;
 
 // Number 1.
+#[tactic(auto, unfolding(mesh::specs::Limits::out_of_range))]
 pub fn out_of_range(n: usize) -> bool
     ensures { result ≡ out_of_range n }
 {
-    if n < FEWEST_VERTICES {
-        return true;
-    }
-    MOST_VERTICES < n
+    n < FEWEST_VERTICES || MOST_VERTICES < n
 }

@@ -2,27 +2,28 @@
 -- side leaves v, or a turn from a side that does is back before it met as many sides as leave v. The definition starts at the lowest
 -- neighbour and goes by neighbours; a turn by positions goes to the same neighbours, and any start serves.
 use Prim.Native.Nat.{ℕ, zero, suc, ◌+◌, ◌-◌, ◌≤◌, ◌<◌}
-use mathlib.Core.Path.{◌≡◌, refl, sym, ap, ap₂, ◌∙◌}
+use mathlib.Core.Path.{◌≡◌, refl, sym, ap, ◌∙◌}
 use mathlib.Core.List.{List}
-use mathlib.Core.Bool.{Bool, true, false, not, ◌&&◌}
+use mathlib.Core.Bool.{true, false, not, ◌&&◌}
 use mathlib.Core.Logic.{◌≢◌}
 use native.Mathlib.Omega.{arith}
 use lib.ListN.{length}
 use lib.Dec.{eqb}
-use borrow.Author.Tests.{ltb-true, eqb-true, eqb-false, eq-eqb, ne_eqb}
+use borrow.Author.Tests.{ltb-true, eqb-true, eqb-false, eq-eqb}
 use Rattle.mesh.specs.Search.{first, some, iterate}
-use Rattle.mesh.specs.Limits.{at, unused_mark}
+use Rattle.mesh.specs.Limits.{unused_mark}
 use Rattle.mesh.specs.Sides.{next, from, to, side_at, third, is_neighbour, first_neighbour, meets}
 use Rattle.mesh.specs.Verdict.{turn_fault}
-use Rattle.mesh.proofs.Tests.{by_bool, clash, same_test, and_of, or_false, or_none, or_left, or_right, and_false_right}
+use Rattle.mesh.specs.Paired.{Paired, turn}
+use Rattle.mesh.proofs.Tests.{by_bool, clash, same_test, and_of, or_false, or_none, or_left, and_false_right}
 use Rattle.mesh.proofs.Search.{first_law, some_at, some_of, some_none, none_some, some_cong, some_is}
 use Rattle.mesh.proofs.Count.{count_lt, count_inj, count_all}
 use Rattle.mesh.proofs.Positions.{side_at_law}
-use Rattle.mesh.specs.Paired.{Paired, turn}
 use Rattle.mesh.proofs.Paired.{turn_in, turn_inj, turn_from, turns_in, turns_from, turns_to, simple, to_in, side_is, neighbour_side, side_neighbour, next_within}
 use Rattle.tables.specs.Checked.{TwinTable}
 use Rattle.tables.specs.Turning.{turn_in_table}
-use Rattle.triangles.specs.Turns.{is_from, degree, back_early, turn_broken, Tally}
+use Rattle.triangles.specs.declared.round.Spokes.{Spokes}
+use Rattle.triangles.specs.Turns.{is_from, degree, back_early, turn_broken, spokes_at, Tally}
 use Rattle.triangles.proofs.OrbitLaws.{meets_all, misses_one, any_start}
 
 module _ (n : ℕ) (ts : List ℕ) (P : Paired n ts) (few : n ≤ unused_mark) (v : ℕ) where
@@ -168,26 +169,10 @@ module _ (n : ℕ) (ts : List ℕ) (P : Paired n ts) (few : n ≤ unused_mark) (
         let s = h (omega arith) in
         rw t (early_same p d s.0 ∙ ap (back_early (turn ts) p) e ∙ sym (fault_is_early p s.0 s.1)))
 
--- what the check meets at a vertex: d sides leave it, p is one of them, and b says whether the turn from p is back early
-module _ (twins : List ℕ) (p d p' d' : ℕ) (b : Bool) (ep : p ≡ p') (ed : d ≡ d') where
-  pub broken_none : d ≡ 0 → turn_broken twins p' d' ≡ true
-  broken_none z = or_left (eqb d' 0) (back_early (turn_in_table twins) p' d') (eq-eqb d' 0 (sym ed ∙ z))
-
-  early : b ≡ back_early (turn_in_table twins) p d → back_early (turn_in_table twins) p' d' ≡ b
-  early e = sym (e ∙ ap₂ (back_early (turn_in_table twins)) ep ed)
-
-  pub broken_early : b ≡ back_early (turn_in_table twins) p d → b ≡ true → turn_broken twins p' d' ≡ true
-  broken_early e t = or_right (eqb d' 0) (back_early (turn_in_table twins) p' d') (early e ∙ t)
-
-  pub broken_not : d ≢ 0 → b ≡ back_early (turn_in_table twins) p d → b ≡ false → turn_broken twins p' d' ≡ false
-  broken_not z e t =
-      or_none (eqb d' 0) (back_early (turn_in_table twins) p' d') (ne_eqb d' 0 (λ y. z (ed ∙ y))) (early e ∙ t)
-
 -- number 8, over all vertices
-pub turn_faults : (n : ℕ) (ts twins starts degrees : List ℕ) (r : Bool) → Paired n ts → n ≤ unused_mark → TwinTable ts twins
-    → n ≤ length starts → n ≤ length degrees → Tally ts (length ts) starts degrees
-    → r ≡ some (λ v. turn_broken twins (at starts v) (at degrees v)) n → r ≡ some (turn_fault n (third ts)) n
-turn_faults n ts twins starts degrees r P few T ls ld h e =
-    e ∙
-    some_cong (λ v. turn_broken twins (at starts v) (at degrees v)) (turn_fault n (third ts)) n
-    (λ v l. turn_fault_holds n ts P few v twins T (at starts v) (at degrees v) (h.counted v (omega arith)) (h.start v (omega arith)))
+pub turn_faults : (n : ℕ) (ts twins : List ℕ) (spokes : List Spokes) → Paired n ts → n ≤ unused_mark → TwinTable ts twins
+    → n ≤ length spokes → Tally ts (length ts) spokes
+    → some (λ v. turn_broken twins (spokes_at spokes v).start (spokes_at spokes v).degree) n ≡ some (turn_fault n (third ts)) n
+turn_faults n ts twins spokes P few T l h =
+    some_cong (λ v. turn_broken twins (spokes_at spokes v).start (spokes_at spokes v).degree) (turn_fault n (third ts)) n
+    (λ v g. turn_fault_holds n ts P few v twins T (spokes_at spokes v).start (spokes_at spokes v).degree (h.counted v (omega arith)) (h.start v (omega arith)))

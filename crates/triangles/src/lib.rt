@@ -5,8 +5,7 @@ mod check;
 mod corners;
 mod outer;
 mod round;
-mod side;
 mod sides;
-mod triangle;
+mod table;
 
 pub use check::check_triangles;

@@ -1,52 +1,45 @@
--- The tests on one target, as the code meets their cases: what the anchors' indices hold, the range, the anchor rule.
-use Prim.Native.Nat.{ℕ, zero, suc, ◌%◌, ◌≤◌, ◌<◌}
-use mathlib.Core.Path.{◌≡◌, refl}
+-- Number 9: the wood begins with the anchors' nine exactly where none of these is at fault.
+use Prim.Native.Nat.{ℕ, ◌*◌, ◌≤◌}
+use mathlib.Core.Path.{◌≡◌, refl, sym, ap, ◌∙◌}
 use mathlib.Core.List.{List}
-use mathlib.Core.Bool.{true, false, not}
-use mathlib.Core.Logic.{◌≢◌}
+use mathlib.Core.Bool.{Bool, true, false, not}
+use lib.ListN.{length, take}
+use lib.Seq.{length-take-le, get_or-take}
 use lib.Dec.{eqb}
-use borrow.Author.Tests.{le-leb, lt-leb, lt-ltb, le-ltb, eq-eqb, ne_eqb}
+use borrow.Author.Tests.{eqb-true, eq-eqb, not-true, not-false}
+use Rattle.std.specs.List.{starts_with}
+use Rattle.std.proofs.lemmas.Slice.Eq.{bytes_eq-Decides}
+use Rattle.mesh.specs.Search.{some}
 use Rattle.mesh.specs.Limits.{at, unused_mark}
 use Rattle.mesh.specs.Wood.{target, anchor_targets}
-use Rattle.mesh.specs.Verdict.{anchor_edge_fault, target_fault, anchor_fault}
+use Rattle.mesh.specs.Verdict.{anchor_edge_fault, target_fault, wood_fault}
+use Rattle.mesh.proofs.Tests.{same_test}
+use Rattle.mesh.proofs.Search.{some_none, none_some}
+use Rattle.mesh.proofs.Lists.{tabulate_is}
 
--- all other indices of the anchors hold the mark
-pub anchor_unused : (i : ℕ) → i ≢ 3 → i ≢ 6 → i ≢ 7 → unused_mark ≡ at anchor_targets i
-anchor_unused zero a b c = refl
-anchor_unused (suc zero) a b c = refl
-anchor_unused (suc (suc zero)) a b c = refl
-anchor_unused (suc (suc (suc zero))) a b c = absurd (a refl)
-anchor_unused (suc (suc (suc (suc zero)))) a b c = refl
-anchor_unused (suc (suc (suc (suc (suc zero))))) a b c = refl
-anchor_unused (suc (suc (suc (suc (suc (suc zero)))))) a b c = absurd (b refl)
-anchor_unused (suc (suc (suc (suc (suc (suc (suc zero))))))) a b c = absurd (c refl)
-anchor_unused (suc (suc (suc (suc (suc (suc (suc (suc zero)))))))) a b c = refl
-anchor_unused (suc (suc (suc (suc (suc (suc (suc (suc (suc i))))))))) a b c = refl
+module _ (ws : List ℕ) (enough : 9 ≤ length ws) where
+  anchors_at : anchor_targets ≡ take 9 ws → some (anchor_edge_fault ws) 9 ≡ false
+  anchors_at e =
+      none_some (anchor_edge_fault ws) 9
+      (λ k l. ap not (eq-eqb (target ws k) (at anchor_targets k) (sym (ap (λ x. at x k) e ∙ get_or-take 9 ws k unused_mark l))))
 
-module _ (ws : List ℕ) (i v w : ℕ) (read : v ≡ target ws i) (asked : w ≡ at anchor_targets i) where
-  pub anchor_differs : v ≢ w → anchor_edge_fault ws i ≡ true
-  anchor_differs d = rw (← read, ← asked, ne_eqb v w d)
+  at_anchors : some (anchor_edge_fault ws) 9 ≡ false → anchor_targets ≡ take 9 ws
+  at_anchors f =
+      tabulate_is (at anchor_targets) 9 anchor_targets unused_mark refl (λ k l. refl) ∙
+      sym (tabulate_is (at anchor_targets) 9 (take 9 ws) unused_mark (length-take-le 9 ws enough)
+      (λ k l. get_or-take 9 ws k unused_mark l ∙ eqb-true (target ws k) (at anchor_targets k) (not-false _ (some_none (anchor_edge_fault ws) 9 f k l))))
 
-  pub anchor_same : v ≡ w → anchor_edge_fault ws i ≡ false
-  anchor_same e = rw (← read, ← asked, eq-eqb v w e)
+  anchors_begin : starts_with eqb ws anchor_targets ≡ not (some (anchor_edge_fault ws) 9)
+  anchors_begin =
+      let d = bytes_eq-Decides anchor_targets (take 9 ws) in
+      same_test (starts_with eqb ws anchor_targets) (not (some (anchor_edge_fault ws) 9)) (λ t. ap not (anchors_at (d.0 t)))
+      (λ t. d.1 (at_anchors (not-true _ t)))
 
-module _ (n : ℕ) (ws : List ℕ) (e v : ℕ) (read : v ≡ target ws e) where
-  pub target_high : 9 ≤ e → n ≤ v → target_fault n ws e ≡ true
-  target_high l g = rw (le-leb 9 e l, ← read, le-leb n v g)
+  module _ (n : ℕ) (begins : Bool) (e : begins ≡ starts_with eqb ws anchor_targets) where
+    pub wrong_at_anchors : begins ≡ false → not begins ≡ wood_fault n ws
+    unfolding wood_fault
+    wrong_at_anchors f = let s = not-false _ (sym anchors_begin ∙ sym e ∙ f) in rw (f, s)
 
-  pub target_low : v < n → 9 ≤ e → target_fault n ws e ≡ false
-  target_low g l = rw (le-leb 9 e l, ← read, lt-leb n v g)
-
--- the anchors' own indices have no fault of these two kinds
-pub target_anchor : (n : ℕ) (ws : List ℕ) (e : ℕ) → e < 9 → target_fault n ws e ≡ false
-target_anchor n ws e l = rw (lt-leb 9 e l)
-
-pub rule_anchor : (ws : List ℕ) (e : ℕ) → e < 9 → false ≡ anchor_fault ws e
-rule_anchor ws e l = rw (lt-leb 9 e l)
-
-module _ (ws : List ℕ) (e v : ℕ) (read : v ≡ target ws e) (l : 9 ≤ e) where
-  pub rule_at_anchor : v < 3 → not (eqb (e % 3) v) ≡ anchor_fault ws e
-  rule_at_anchor g = rw (le-leb 9 e l, ← read, lt-ltb v 3 g)
-
-  pub rule_inside : 3 ≤ v → false ≡ anchor_fault ws e
-  rule_inside g = rw (le-leb 9 e l, ← read, le-ltb v 3 g)
+    pub wrong_behind : begins ≡ true → (high : Bool) → high ≡ some (target_fault n ws) (3 * n) → high ≡ wood_fault n ws
+    unfolding wood_fault
+    wrong_behind t high h = let s = not-true _ (sym anchors_begin ∙ sym e ∙ t) in rw s h

@@ -6,48 +6,39 @@ use mathlib.Core.List.{List}
 use mathlib.Core.Bool.{Bool, true, false, not}
 use native.Mathlib.Omega.{arith}
 use lib.ListN.{length}
-use borrow.Author.Tests.{le-leb, lt-leb, lt-ltb, not-true, not-false}
+use borrow.Author.Tests.{le-leb, lt-leb, lt-ltb, not-false}
+use Rattle.mesh.specs.Search.{some, every}
 use Rattle.mesh.specs.Limits.{at}
 use Rattle.mesh.specs.Sides.{from, to, side_at, third, is_neighbour}
 use Rattle.mesh.specs.Wood.{source, target, edge_of, used, turn_rule, labels_round}
 use Rattle.mesh.specs.Verdict.{join_fault, turn_rule_fault}
 use Rattle.mesh.proofs.Tests.{by_bool, clash, and_fails}
-use Rattle.mesh.proofs.Search.{some_none}
+use Rattle.mesh.proofs.Search.{some_none, every_at, every_of}
 use Rattle.mesh.proofs.Positions.{side_at_law}
 use Rattle.mesh.proofs.Paired.{neighbour_side}
-use Rattle.tables.specs.Checked.{position_of}
-use Rattle.wood.specs.Stages.{Joined}
+use Rattle.tables.specs.Checked.{position_of, Filled}
 use Rattle.wood.specs.Sectors.{sector_holds}
 use Rattle.tables.proofs.EdgeLaws.{used_inner}
 use Rattle.wood.proofs.RoundLaws.{sectors_rule, rule_sectors}
-
--- a sector that the code found kept
-pub sector_kept : (n : ℕ) (x : ℕ → ℕ → ℕ) (ws : List ℕ) (v a c : ℕ) (r : Bool) → r ≡ sector_holds n x ws v a c → not r ≡ false
-    → sector_holds n x ws v a c ≡ true
-sector_kept n x ws v a c r e t = sym e ∙ not-false r t
-
--- the rule at a vertex, by what the code answered of it
-pub turn_answered : (n : ℕ) (x : ℕ → ℕ → ℕ) (ws : List ℕ) (v : ℕ) (r b : Bool) → r ≡ turn_rule_fault n x ws v → r ≡ b → turn_rule_fault n x ws v ≡ b
-turn_answered n x ws v r b e t = sym e ∙ t
 
 -- an anchor has no turn rule
 pub anchor_turn : (n : ℕ) (x : ℕ → ℕ → ℕ) (ws : List ℕ) (v : ℕ) → v < 3 → turn_rule_fault n x ws v ≡ false
 anchor_turn n x ws v l = rw (lt-leb 3 v l)
 
-module _ (n : ℕ) (ts ws twins positions : List ℕ) (J : Joined n ts ws twins positions) (v start : ℕ) (inner : 3 ≤ v) (below : v < n)
+module _ (n : ℕ) (ts ws twins positions : List ℕ) (F : Filled n ts ws twins positions) (J : some (join_fault n (third ts) ws) (3 * n) ≡ false) (v start : ℕ) (inner : 3 ≤ v) (below : v < n)
     (read : start ≡ at positions (3 * v)) where
   edge_side : side_at ts (source (3 * v)) (target ws (3 * v)) < length ts
   edge_side =
-      let m = J.filled.meshed.range.not_too_many in
+      let m = F.meshed.range.not_too_many in
       and_fails (used (3 * v)) (not (is_neighbour n (third ts) (source (3 * v)) (target ws (3 * v))))
-      (some_none (join_fault n (third ts) ws) (3 * n) J.joined (3 * v) (omega arith))
+      (some_none (join_fault n (third ts) ws) (3 * n) J (3 * v) (omega arith))
       (λ t. clash (used (3 * v)) (used_inner (3 * v) (omega arith)) t)
-      (λ t. neighbour_side n ts J.filled.meshed.paired (omega arith) (source (3 * v)) (target ws (3 * v))
+      (λ t. neighbour_side n ts F.meshed.paired (omega arith) (source (3 * v)) (target ws (3 * v))
       (not-false (is_neighbour n (third ts) (source (3 * v)) (target ws (3 * v))) t))
 
   start_is : start ≡ side_at ts (source (3 * v)) (target ws (3 * v))
   unfolding position_of
-  start_is = read ∙ J.filled.position_table (3 * v) (omega arith) ∙ rw (lt-ltb (side_at ts (source (3 * v)) (target ws (3 * v))) (length ts) edge_side)
+  start_is = read ∙ F.position_table (3 * v) (omega arith) ∙ rw (lt-ltb (side_at ts (source (3 * v)) (target ws (3 * v))) (length ts) edge_side)
 
   pub start_in : start < length ts
   start_in = rw start_is edge_side
@@ -65,13 +56,20 @@ module _ (n : ℕ) (ts ws twins positions : List ℕ) (J : Joined n ts ws twins 
   rule_at : turn_rule 0 (labels_round n (third ts) ws (from ts start)) ≡ turn_rule 0 (labels_round n (third ts) ws v)
   rule_at = ap (λ (x : ℕ). turn_rule 0 (labels_round n (third ts) ws x)) start_from
 
-  -- one sector that is not kept breaks the rule
-  pub turn_breaks : (c : ℕ) (r : Bool) → c < 3 → r ≡ sector_holds n (third ts) ws (from ts start) (to ts start) c → not r ≡ true
-      → true ≡ turn_rule_fault n (third ts) ws v
-  turn_breaks c r l e t =
-      by_bool (turn_rule 0 (labels_round n (third ts) ws v))
-      (λ u. clash r (e ∙ rule_sectors n ts ws J.filled.meshed.paired start start_in start_to (rule_at ∙ u) c l) (not-true r t))
-      (λ u. rw (le-leb 3 v inner, u))
+  abbrev kept : ℕ → Bool
+  kept c = sector_holds n (third ts) ws (from ts start) (to ts start) c
 
-  pub turn_fine : ((c : ℕ) → c < 3 → sector_holds n (third ts) ws (from ts start) (to ts start) c ≡ true) → false ≡ turn_rule_fault n (third ts) ws v
-  turn_fine h = rw (le-leb 3 v inner, sym rule_at ∙ sectors_rule n ts ws J.filled.meshed.paired start start_in start_to h)
+  -- the rule is broken where not all three sectors are kept
+  pub turn_sectors : not (every kept 3) ≡ turn_rule_fault n (third ts) ws v
+  turn_sectors =
+      let P = F.meshed.paired in
+      by_bool (turn_rule 0 (labels_round n (third ts) ws v))
+      (λ u.
+      let t : every kept 3 ≡ true = every_of kept 3 (rule_sectors n ts ws P start start_in start_to (rule_at ∙ u)) in
+      rw (t, le-leb 3 v inner, u))
+      (λ u.
+      let t : every kept 3 ≡ false =
+      by_bool (every kept 3)
+      (λ h. clash (turn_rule 0 (labels_round n (third ts) ws v)) (sym rule_at ∙ sectors_rule n ts ws P start start_in start_to (every_at kept 3 h)) u)
+      (λ h. h) in
+      rw (t, le-leb 3 v inner, u))

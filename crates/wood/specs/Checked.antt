@@ -3,9 +3,11 @@ use Rattle.std.specs.Prelude.{ℕ, ◌≡◌, List, Bool, not, ◌&&◌, length,
 use Rattle.mesh.specs.Limits.{InRange, triangles_length, wood_length}
 use Rattle.mesh.specs.Ladder.{first_of}
 use Rattle.mesh.specs.Verdict.{sized, mesh_ladder, Clear}
-use Rattle.tables.specs.Outcome.{outcome, leaves}
+use Rattle.std.specs.Bool.{⊤}
+use Rattle.std.specs.declared.result.Result.{Result}
+use Rattle.tables.specs.declared.refusal.Refusal.{Refusal}
+use Rattle.tables.specs.Refusal.{number_met, leaves}
 use Rattle.tables.specs.Checked.{twins_of, positions_of}
-use Rattle.tables.specs.declared.outcome.Outcome.{Outcome}
 
 -- the lengths of the triangles, the wood and the two outputs are those that n asks: one number for each position, one for each edge
 abbrev pub lengths_fit : ℕ → ℕ → ℕ → ℕ → ℕ → Bool
@@ -28,8 +30,8 @@ unfoldable pub mesh_says : ℕ → List ℕ → List ℕ → List ℕ → List �
 mesh_says n ts ws twins positions = first_of (sized n (not (mesh_lengths n ts ws twins positions)) (mesh_ladder n ts ws))
 
 -- done, the outputs hold the position of each side's reverse and of each edge's side
-pub record MeshChecked (n : ℕ) (ts ws twins positions : List ℕ) (r : Outcome) (twins' positions' : List ℕ) : Type 0 where
-  pub answer : r ≡ outcome (mesh_says n ts ws twins positions)
+pub record MeshChecked (n : ℕ) (ts ws twins positions : List ℕ) (r : Result ⊤ Refusal) (twins' positions' : List ℕ) : Type 0 where
+  pub answer : number_met r ≡ mesh_says n ts ws twins positions
   pub reverses : twins' ≡ leaves (mesh_says n ts ws twins positions) (twins_of ts) twins
   pub edge_positions : positions' ≡ leaves (mesh_says n ts ws twins positions) (positions_of n ts ws) positions
 
@@ -38,3 +40,9 @@ pub record MeshDone (n : ℕ) (ts ws twins' positions' : List ℕ) : Type 0 wher
   pub clear : Clear n ts ws
   pub reverses : twins' ≡ twins_of ts
   pub edge_positions : positions' ≡ positions_of n ts ws
+
+-- 3 to 13 together, over tables of the right sizes; where none applies both outputs are filled
+pub record MeshJudged (n : ℕ) (ts ws : List ℕ) (r : Result ⊤ Refusal) (twins positions : List ℕ) : Type 0 where
+  pub answer : number_met r ≡ first_of (mesh_ladder n ts ws)
+  pub reverses : number_met r ≡ 0 → twins ≡ twins_of ts
+  pub edge_positions : number_met r ≡ 0 → positions ≡ positions_of n ts ws

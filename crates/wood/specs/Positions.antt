@@ -1,12 +1,8 @@
 -- The table of the edges' positions, on the way.
-use Rattle.std.specs.Prelude.{ℕ, ◌≡◌, List, cond, length, set, eqb}
+use Rattle.std.specs.Prelude.{ℕ, ◌≡◌, List, cond, length}
 use Rattle.mesh.specs.Limits.{at}
 use Rattle.mesh.specs.Sides.{is_side}
 use Rattle.mesh.specs.Wood.{source, target}
-
--- the positions with p written at edge e, where e ends at b
-abbrev pub position_if : List ℕ → ℕ → ℕ → ℕ → List ℕ → List ℕ
-position_if ws e b p positions = cond (eqb (target ws e) b) (set positions e p) positions
 
 -- the positions after the side at p: it is the position of each edge that runs along it
 pub record SidePositioned (ts ws : List ℕ) (p : ℕ) (before after : List ℕ) : Type 0 where

@@ -3,61 +3,58 @@
 ghost use Rattle.std.specs.Prelude.{◌≡◌, ◌<◌};
 ghost use Rattle.mesh.specs.Search.{some};
 ghost use Rattle.mesh.specs.Verdict.{path_fault};
-ghost use Rattle.wood.specs.Stages.{Targeted};
-ghost use Rattle.wood.specs.Paths.{Marked, Walked, colour_fault};
+ghost use Rattle.wood.specs.Paths.{Inside, Marked, Walked, colour_fault};
 
-use tables::limits::{MOST_VERTICES, UNUSED};
+use crate::targets::Wood;
+use tables::limits::MOST_VERTICES;
 use tables::table::at;
 
-// Following colour c from v ends at anchor c: at the anchor itself, or at the mark of an earlier walk.
-fn path_ends(n: usize, ws: &[u16], c: usize, v: usize, marks: &mut [u16]) -> bool
-    requires { Targeted n ws.now × (c < 3) × (v < n) × Marked n ws.now c v marks.old }
-    ensures { Walked n ws.now c v result marks.new }
-{
-    let mut u = v;
-    let mut steps: usize = 0;
-    while steps < n {
-        if u < 3 {
-            return u == c;
-        }
-        let mark = at(marks, u);
-        if mark != UNUSED {
-            return mark as usize != v;
-        }
-        marks[u] = v as u16;
-        u = at(ws, 3 * u + c) as usize;
-        steps += 1;
-    }
-    u == c
+// A wood whose inner vertices' edges end at vertices: what 9 leaves.
+#[derive(Clone, Copy)]
+pub(crate) struct Paths<'a> {
+    pub(crate) wood: Wood<'a>,
+    pub(crate) ghost inside: { Inside wood.size.vertices wood.targets.now },
 }
 
-// From some inner vertex colour c does not end at anchor c.
-fn colour_broken(n: usize, ws: &[u16], c: usize) -> bool
-    requires { Targeted n ws.now × (c < 3) }
-    ensures { result ≡ some (colour_fault n ws.now c) n }
-{
-    let mut marks = [UNUSED; MOST_VERTICES];
-    let mut v: usize = 3;
-    while v < n {
-        if !path_ends(n, ws, c, v, &mut marks) {
-            return true;
+impl Paths<'_> {
+    // Following colour c from v ends at anchor c: at the anchor itself, or at the mark of an earlier walk.
+    fn ends(&self, c: usize, v: usize, marks: &mut [Option<u16>]) -> bool
+        requires { (c < 3) × (v < self.now.wood.size.vertices) × Marked self.now.wood.size.vertices self.now.wood.targets.now c v marks.old }
+        ensures { Walked self.now.wood.size.vertices self.now.wood.targets.now c v result marks.new }
+    {
+        let mut u = v;
+        for _ in 0..self.wood.size.vertices {
+            if u < 3 {
+                return u == c;
+            }
+            if let Some(mark) = marks[u] {
+                return mark as usize != v;
+            }
+            marks[u] = Some(v as u16);
+            u = at(self.wood.targets, 3 * u + c) as usize;
         }
-        v += 1;
+        u == c
     }
-    false
-}
 
-// Number 13.
-pub(crate) fn path_broken(n: usize, ws: &[u16]) -> bool
-    requires { Targeted n ws.now }
-    ensures { result ≡ some (path_fault n ws.now) n }
-{
-    let mut c: usize = 0;
-    while c < 3 {
-        if colour_broken(n, ws, c) {
-            return true;
+    // From some inner vertex colour c does not end at anchor c. A loop and not `any`, since each walk writes the marks: of a closure that
+    // writes what it captures the kit's methods say nothing.
+    fn colour_broken(&self, c: usize) -> bool
+        requires { c < 3 }
+        ensures { result ≡ some (colour_fault self.now.wood.size.vertices self.now.wood.targets.now c) self.now.wood.size.vertices }
+    {
+        let mut marks = [None; MOST_VERTICES];
+        for v in 3..self.wood.size.vertices {
+            if !self.ends(c, v, &mut marks) {
+                return true;
+            }
         }
-        c += 1;
+        false
     }
-    false
+
+    // Number 13.
+    pub(crate) fn broken(&self) -> bool
+        ensures { result ≡ some (path_fault self.now.wood.size.vertices self.now.wood.targets.now) self.now.wood.size.vertices }
+    {
+        (0..3).any(|c| self.colour_broken(c))
+    }
 }

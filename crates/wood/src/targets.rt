@@ -1,90 +1,44 @@
 // What a target may be: number 9, the anchors' nine indices and the range; number 11, the anchor rule.
-ghost use Rattle.std.specs.Prelude.{◌≡◌, ◌*◌, ◌≤◌};
+ghost use Rattle.std.specs.Prelude.{◌≡◌, ◌*◌, length};
 ghost use Rattle.mesh.specs.Search.{some};
-ghost use Rattle.mesh.specs.Limits.{at, most_vertices, InRange};
-ghost use Rattle.mesh.specs.Wood.{anchor_targets};
-ghost use Rattle.mesh.specs.Verdict.{anchor_edge_fault, target_fault, wood_fault, anchor_fault};
+ghost use Rattle.mesh.specs.Limits.{wood_length};
+ghost use Rattle.mesh.specs.Verdict.{target_fault, wood_fault, anchor_fault};
 
-use tables::limits::UNUSED;
+use tables::edge::ANCHOR_TARGETS;
+use tables::size::Size;
 use tables::table::at;
 
-// What index i of the anchors' nine has to hold.
-fn anchor_target(i: usize) -> u16
-    ensures { result ≡ at anchor_targets i }
-{
-    if i == 3 {
-        return 0;
-    }
-    if i == 6 {
-        return 0;
-    }
-    if i == 7 {
-        return 1;
-    }
-    UNUSED
+// A wood table of the length that its size asks. Crates triangles and rebuild have values like it of other lengths: one type for all
+// would be public and take the length as a parameter that only proofs read.
+#[derive(Clone, Copy)]
+pub(crate) struct Wood<'a> {
+    pub(crate) size: Size,
+    pub(crate) targets: &'a [u16],
+    ghost whole: { length targets.now ≡ wood_length size.vertices },
 }
 
-fn anchor_edges_wrong(ws: &[u16]) -> bool
-    ensures { result ≡ some (anchor_edge_fault ws.now) 9 }
-{
-    let mut i: usize = 0;
-    while i < 9 {
-        if at(ws, i) != anchor_target(i) {
-            return true;
-        }
-        i += 1;
+impl Wood<'_> {
+    // The anchors' own indices are tested apart.
+    fn target_too_high(&self) -> bool
+        ensures { result ≡ some (target_fault self.now.size.vertices self.now.targets.now) (3 * self.now.size.vertices) }
+    {
+        (0..self.size.edges()).any(|e| 9 <= e && self.size.vertices <= at(self.targets, e) as usize)
     }
-    false
-}
 
-// The anchors' own indices are tested apart: the search begins behind them.
-fn target_too_high(n: usize, ws: &[u16]) -> bool
-    requires { InRange n }
-    ensures { result ≡ some (target_fault n ws.now) (3 * n) }
-{
-    let mut e: usize = 9;
-    while e < 3 * n {
-        if n <= at(ws, e) as usize {
-            return true;
-        }
-        e += 1;
+    // Number 9.
+    pub(crate) fn target_wrong(&self) -> bool
+        ensures { result ≡ wood_fault self.now.size.vertices self.now.targets.now }
+    {
+        !self.targets.starts_with(&ANCHOR_TARGETS) || self.target_too_high()
     }
-    false
-}
 
-// Number 9.
-pub(crate) fn wood_wrong(n: usize, ws: &[u16]) -> bool
-    requires { InRange n }
-    ensures { result ≡ wood_fault n ws.now }
-{
-    if anchor_edges_wrong(ws) {
-        return true;
+    // Number 11: an edge of an inner vertex ends at an anchor of another number than its colour.
+    pub(crate) fn anchor_rule_broken(&self) -> bool
+        ensures { result ≡ some (anchor_fault self.now.targets.now) (3 * self.now.size.vertices) }
+    {
+        (0..self.size.edges()).any(|e| {
+            let v = at(self.targets, e) as usize;
+            9 <= e && v < 3 && e % 3 != v
+        })
     }
-    target_too_high(n, ws)
-}
-
-// Edge e of an inner vertex ends at an anchor of another number than its colour.
-fn anchor_rule_broken(ws: &[u16], e: usize) -> bool
-    ensures { result ≡ anchor_fault ws.now e }
-{
-    if e < 9 {
-        return false;
-    }
-    let v = at(ws, e) as usize;
-    if v < 3 { e % 3 != v } else { false }
-}
-
-// Number 11.
-pub(crate) fn anchor_broken(n: usize, ws: &[u16]) -> bool
-    requires { n ≤ most_vertices }
-    ensures { result ≡ some (anchor_fault ws.now) (3 * n) }
-{
-    let mut e: usize = 0;
-    while e < 3 * n {
-        if anchor_rule_broken(ws, e) {
-            return true;
-        }
-        e += 1;
-    }
-    false
 }

@@ -1,53 +1,67 @@
--- `put_table` stores one frame behind the other, each in the part that the last one left.
-use mathlib.Core.Path.{◌≡◌}
-use Prim.Native.Nat.{◌+◌, ◌/◌, ◌≤◌}
-use lib.ListN.{length}
-use Rattle.frames.specs.Frames.{width, frame_of, table_frames}
+-- `put_table` stores one frame behind the other; the chunks that are left begin three numbers a frame on.
+use Rattle.std.proofs.Common.{◌≡◌, ◌+◌, ◌*◌, ◌/◌, ◌≤◌, ◌++◌, length, drop, sym, refl, ap, ◌∙◌}
+use Rattle.std.specs.Slice.Iter.{chunks_exact_rest, chunks_exact_size}
+use Rattle.std.proofs.lemmas.List.{length_push}
+use lib.ListN.{length-drop}
+use Rattle.frames.specs.Frames.{width, table_frames}
 use Rattle.frames.specs.Lines.{frame_length}
-use Rattle.frames.proofs.StoreLaws.{stored_length, lines_none, lines_more}
-use Rattle.arraytext.proofs.RebuildLaws.{frame_placed}
+use Rattle.frames.proofs.StoreLaws.{stored_length, lines_none}
+use Rattle.frames.proofs.PartLaws.{length_rest}
+use Rattle.arraytext.proofs.RebuildLaws.{triple_done, chunk_within, chunk_rest, table_fits, table_goes_on}
 use native.Mathlib.Omega.{arith}
-use Rattle.arraytext.proofs.rebuilding.put_table.Goals.{At-loop-i, In-loop-i}
+use Rattle.arraytext.proofs.rebuilding.put_table.Goals.{In-Some}
 use Rattle.arraytext.proofs.rebuilding.put_table.Goals as goal
 
-kept : (l : At-loop-i) → length l.loop-i.part ≡ length l.args.part.now
-kept l = stored_length _ _ _ _ _ _ l.loop-i.invariant.1
+-- the chunk that comes, and the room for its frame
+cut : (t : In-Some) → drop (3 * length t.loop-triple.yielded) t.args.table.now ≡ t.in-Some.triple.now ++ chunks_exact_rest t.next.new.self
+cut t = let s = t.in-Some.ensures.steps in sym t.loop-triple.invariant.rest ∙ s.1.0
 
--- the next frame has room
-room : (t : In-loop-i) → t.loop-i.place + frame_length width ≤ length t.loop-i.part
-room t =
-    let f = t.loop-i.invariant.1 in
-    omega (arith, (stored_length _ _ _ _ _ _ t.loop-i.invariant.1), f.few, f.after, t.requires)
+whole : (t : In-Some) → length t.in-Some.triple.now ≡ 3
+whole t = let s = t.in-Some.ensures.steps in s.1.1 ∙ t.loop-triple.invariant.size
 
-pub loop-i-init : goal.loop-i-init
-loop-i-init c =
-    let a = c.args in
-    (omega arith, lines_none (frame_length width) (frame_of width a.code a.table.now) 0 a.part.now)
+room : (t : In-Some) → t.loop-triple.at + frame_length width ≤ length t.loop-triple.part
+room t = table_fits _ _ _ _ (cut t) (whole t) _ _ _ _ t.loop-triple.invariant.stored t.requires
 
-pub slice_bounds-put_triple-count : goal.slice_bounds-put_triple-count
-slice_bounds-put_triple-count c = omega (arith, room c)
+pub loop-triple-init : goal.loop-triple-init
+loop-triple-init c =
+    let e = c.into_iter-triple-iterator.ensures.into_iter_gives in record {
+      size = ap chunks_exact_size e ∙ c.chunks_exact-triple-items.ensures.size;
+      within = omega arith;
+      rest = ap chunks_exact_rest e ∙ c.chunks_exact-triple-items.ensures.rest;
+      stored = lines_none (frame_length width) _ 0 c.args.part.now;
+    }
 
-pub overflow_add-place : goal.overflow_add-place
-overflow_add-place c =
-    let p = goal.at.overflow_add-place c in
-    omega (arith, room p.In-loop-i, kept p.At-loop-i)
+pub unwrap-at-requires : goal.unwrap-at-requires
+unwrap-at-requires c =
+    let t = (goal.at.unwrap-at-requires c).In-Some in
+    rw (triple_done _ _ _ _ _ _ _ (omega (arith, room t, length_rest c.loop-triple.at c.loop-triple.part)) c.put_triple.ensures) refl
 
-pub loop-i-preserved : goal.loop-i-preserved
-loop-i-preserved c =
-    let p = (goal.at.loop-i-preserved c).In-loop-i in
-    let a = c.args in (
-      omega arith,
-      lines_more (frame_length width) (frame_of width a.code a.table.now) 0 a.part.now c.loop-i.i c.loop-i.place (c.loop-i.place + frame_length width) c.loop-i.part _ c.loop-i.invariant.1
-          (frame_placed a.code c.loop-i.i c.loop-i.place c.at.result c.at-in-loop-i.result c.at-in-loop-i-2.result a.table.now c.loop-i.part c.put_triple.result c.put_triple.new.part
-          c.at.ensures c.at-in-loop-i.ensures c.at-in-loop-i-2.ensures (room p) c.put_triple.ensures),
-    )
+pub loop-triple-preserved : goal.loop-triple-preserved
+loop-triple-preserved c =
+    let t = (goal.at.loop-triple-preserved c).In-Some in
+    let s = c.in-Some.ensures.steps in
+    let table = c.args.table.now in
+    let chunk = c.in-Some.triple.now in
+    let left = chunks_exact_rest c.next.new.self in
+    let i = length c.loop-triple.yielded in
+    rw (length_push c.loop-triple.yielded c.in-Some.triple)
+    (record {
+      size = s.0 ∙ c.loop-triple.invariant.size;
+      within = chunk_within table chunk left i (cut t) (whole t);
+      rest = chunk_rest table chunk left i (cut t) (whole t);
+      stored = table_goes_on table chunk left i (cut t) (whole t) _ _ _ _ c.loop-triple.invariant.stored _ _ _ (room t) c.put_triple.ensures c.unwrap-at.ensures;
+    })
 
-pub shape_of-part : goal.shape_of-part
-shape_of-part c = kept (goal.at.shape_of-part c).At-loop-i
+pub overflow_add-at : goal.overflow_add-at
+overflow_add-at c =
+    let t = (goal.at.overflow_add-at c).In-Some in
+    let p = (loop-triple-preserved c).stored in
+    omega (arith, p.few, p.after, stored_length _ _ _ _ _ _ p, chunk_within c.args.table.now c.in-Some.triple.now (chunks_exact_rest c.next.new.self) (length c.loop-triple.yielded) (cut t) (whole t), length_push c.loop-triple.yielded c.in-Some.triple)
 
 pub returns : goal.returns
 unfolding table_frames
 returns c =
-    let a = c.args in
-    let e : c.loop-i.i ≡ length a.table.now / 3 = omega arith in
-    rw e at c.loop-i.invariant.1
+    let s = c.in-None.ensures.steps in
+    let i : length c.loop-triple.yielded ≡ length c.args.table.now / 3 =
+    omega (arith, c.loop-triple.invariant.within, c.loop-triple.invariant.size, s.1.0, ap length c.loop-triple.invariant.rest, length-drop (3 * length c.loop-triple.yielded) c.args.table.now) in
+    rw i at c.loop-triple.invariant.stored

@@ -1,48 +1,36 @@
--- `rebuild_array` reads both tables, and lends the fronts of the references and of the two that are rebuilt.
-use mathlib.Core.Path.{◌≡◌, sym, ap, ◌∙◌}
-use Prim.Native.Nat.{ℕ}
-use lib.ListN.{length, take, replicate}
-use Rattle.mesh.specs.Limits.{most_vertices, unused_mark, triangles_length, wood_length, references_length}
-use Rattle.tables.proofs.TableLaws.{prefix_long}
-use Rattle.arraytext.proofs.ReadingLaws.{length_references}
+-- `rebuild_array` writes the rebuilt mesh, whose inner vertices are the wood from place 9 on, or the refusal.
+use Rattle.std.proofs.Common.{List, ℕ, sym, ap, subst, ◌∙◌}
+use Rattle.frames.specs.Frames.{width, house_text, refusal_line}
+use Rattle.frames.specs.Lines.{text_limit}
+use Rattle.frames.specs.Put.{WroteInRoom, Stored}
+use Rattle.frames.proofs.PutLaws.{stored_front, frame_front}
+use Rattle.frames.proofs.PartLaws.{rest}
+use Rattle.frames.proofs.FrameLaws.{length_refusal}
+use Rattle.arraytext.proofs.RebuildLaws.{right_sizes, text_rebuilt, text_refused}
 use native.Mathlib.Omega.{arith}
-use Rattle.arraytext.proofs.rebuilding.rebuild_array.Goals.{After-read_array}
 use Rattle.arraytext.proofs.rebuilding.rebuild_array.Goals as goal
 
--- the tables that are lent have the lengths that n asks
-references_long : (r : After-read_array) →
-    let n : ℕ = r.args.n in
-    length (take (references_length n) r.read_array.new.references) ≡ references_length n
-references_long r =
-    let a = r.args in
-    ap length r.read_array.ensures.references ∙ length_references a.n a.text.now
+pub returns-in-Ok : goal.returns-in-Ok
+returns-in-Ok c =
+    let t = c.args.text in
+    let n = t.size.vertices in
+    let ws = c.rebuild.new.wood in
+    let ts = c.rebuild.new.triangles in
+    rw (sym c.read_references.ensures)
+    (stored_front text_limit _ c.args.out.now c.put_mesh.result c.put_mesh.new.out c.requires
+    (subst (λ (x : List ℕ). Stored text_limit x 0 c.args.out.now c.put_mesh.result c.put_mesh.new.out)
+    (ap (house_text width n ts) (rest 9 ws) ∙
+    text_rebuilt n c.read_references.new.references _ _ (right_sizes n t.text.now c.read_references.new.references c.edges.result c.corners.result t.size.in_range c.read_references.ensures c.edges.ensures c.corners.ensures)
+    c.rebuild.result ws ts c.rebuild.ensures c.in-Ok.field-0 c.in-Ok.is)
+    c.put_mesh.ensures))
 
-wood_long : (r : After-read_array) →
-    let n : ℕ = r.args.n in
-    wood_length n ≡ length (take (wood_length n) (replicate (wood_length most_vertices) unused_mark))
-wood_long r =
-    prefix_long (wood_length r.args.n) (wood_length most_vertices) unused_mark (omega (arith, r.requires.0.range.not_too_many))
-
-triangles_long : (r : After-read_array) →
-    let n : ℕ = r.args.n in
-    triangles_length n ≡ length (take (triangles_length n) (replicate (triangles_length most_vertices) unused_mark))
-triangles_long r =
-    prefix_long (triangles_length r.args.n) (triangles_length most_vertices) unused_mark (omega (arith, r.requires.0.range.not_too_many))
-
-pub slice_bounds-rebuild_mesh-end : goal.slice_bounds-rebuild_mesh-end
-slice_bounds-rebuild_mesh-end c = sym (references_long (goal.at.slice_bounds-rebuild_mesh-end c).After-read_array)
-
-pub slice_bounds-rebuild_mesh-end-2 : goal.slice_bounds-rebuild_mesh-end-2
-slice_bounds-rebuild_mesh-end-2 c = wood_long (goal.at.slice_bounds-rebuild_mesh-end-2 c).After-read_array
-
-pub slice_bounds-rebuild_mesh-end-3 : goal.slice_bounds-rebuild_mesh-end-3
-slice_bounds-rebuild_mesh-end-3 c = triangles_long (goal.at.slice_bounds-rebuild_mesh-end-3 c).After-read_array
-
-pub rebuild_mesh-requires : goal.rebuild_mesh-requires
-rebuild_mesh-requires c =
-    let p = (goal.at.rebuild_mesh-requires c).After-read_array in
-    (record { range = c.requires.0.range; references_right = references_long p; wood_right = sym (wood_long p); triangles_right = sym (triangles_long p) }, c.requires.1)
-
-pub returns : goal.returns
-returns c =
-    rw (sym c.read_array.ensures.references) c.rebuild_mesh.ensures
+pub returns-in-Err : goal.returns-in-Err
+returns-in-Err c =
+    let t = c.args.text in
+    let n = t.size.vertices in
+    rw (sym c.read_references.ensures)
+    (subst (λ (x : List ℕ). WroteInRoom text_limit x c.args.out.now c.put_refusal.result c.put_refusal.new.part)
+    (ap refusal_line c.number.ensures ∙
+    text_refused n c.read_references.new.references _ _ (right_sizes n t.text.now c.read_references.new.references c.edges.result c.corners.result t.size.in_range c.read_references.ensures c.edges.ensures c.corners.ensures)
+    c.rebuild.result c.rebuild.new.wood c.rebuild.new.triangles c.rebuild.ensures c.in-Err.refusal c.in-Err.is)
+    (frame_front _ c.args.out.now c.put_refusal.result c.put_refusal.new.part c.put_refusal.ensures text_limit (omega (arith, length_refusal c.number.result)) c.requires))

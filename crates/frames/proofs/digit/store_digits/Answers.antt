@@ -1,21 +1,19 @@
--- `store_digits` stores the last digit first: what is left to store, stored, is always the whole.
-use mathlib.Core.Path.{◌≡◌, sym, ◌∙◌}
+-- `store_digits` stores the last digit first: what is left to store, before what is stored, is always the whole.
+use mathlib.Core.Path.{◌≡◌, ◌∙◌}
 use lib.ListN.{length-set}
-use Rattle.frames.proofs.DigitLaws.{digits_stored, no_digits}
+use Rattle.frames.specs.Digits.{digits}
+use Rattle.frames.proofs.DigitLaws.{digits_stored}
 use native.Mathlib.Omega.{arith}
 use Rattle.frames.proofs.digit.store_digits.Goals as goal
 
-pub loop-left-preserved : goal.loop-left-preserved
-loop-left-preserved c =
-    let a = c.args in (
-      simp length-set c.loop-left.invariant.0,
-      omega arith,
-      c.loop-left.invariant.2,
-      digits_stored c.loop-left.part a.at c.loop-left.left c.loop-left.rest c.digit.result c.loop-left-test.true c.digit.ensures ∙ c.loop-left.invariant.3,
-    )
+pub loop-i-preserved : goal.loop-i-preserved
+loop-i-preserved c = record {
+  same_length = simp length-set c.loop-i.invariant.same_length;
+  whole = digits_stored c.loop-i.places c.loop-i.i c.loop-i.rest c.digit.result (omega arith) (omega arith) c.digit.ensures ∙ c.loop-i.invariant.whole;
+}
 
 pub returns : goal.returns
+unfolding digits
 returns c =
-    let a = c.args in
-    let z : c.loop-left.left ≡ 0 = omega arith in
-    sym (no_digits c.loop-left.part a.at c.loop-left.left c.loop-left.rest z) ∙ c.loop-left.invariant.3
+    let z : c.loop-i.i ≡ 0 = omega arith in
+    rw z at c.loop-i.invariant.whole

@@ -1,67 +1,50 @@
--- `rebuild`: the sizes refuse; a decoded mesh is left in the outputs; else the mark is.
-use mathlib.Core.Path.{◌≡◌, refl, sym, ◌∙◌}
-use mathlib.Core.Bool.{false}
-use native.Mathlib.Omega.{arith}
-use borrow.Author.Tests.{eqb-false}
-use Rattle.mesh.specs.Limits.{out_of_range}
-use Rattle.mesh.proofs.Limits.{in_range}
+-- `rebuild`: the sizes refuse; a decoded mesh is left in the outputs; else the mark is. Past the first test n is the size's.
+use mathlib.Core.Path.{sym}
 use Rattle.rebuild.specs.Decode.{RightSizes}
-use Rattle.rebuild.specs.Rebuild.{rebuild_lengths}
-use Rattle.rebuild.proofs.RebuildLaws.{number_1, number_2, right_sizes, rebuild_kept, rebuild_done, rebuild_marked}
-use Rattle.rebuild.proofs.rebuilder.rebuild.Goals.{Else-not-references-n, Else-out_of_range}
+use Rattle.rebuild.proofs.RebuildLaws.{range_refuses, lengths_refuse, right_sizes, rebuild_done, rebuild_marked}
+use Rattle.rebuild.proofs.rebuilder.rebuild.Goals.{In_ok-refuse_if}
 use Rattle.rebuild.proofs.rebuilder.rebuild.Goals as goal
 
-pub returns-then-out_of_range : goal.returns-then-out_of_range
-returns-then-out_of_range c =
+pub returns-in_err-size : goal.returns-in_err-size
+returns-in_err-size c =
     let a = c.args in
-    rebuild_kept a.n a.references.now a.wood.now a.triangles.now 1
-    (number_1 a.n a.references.now a.wood.now a.triangles.now (sym c.out_of_range.ensures ∙ c.if-out_of_range.true)) (eqb-false 1 0 refl) (omega arith)
+    range_refuses a.n a.references.now a.wood.now a.triangles.now _ _ c.from_residual.ensures.1 c.in_err-size.ensures.range
 
--- what the test of n leaves
-in_bounds : (c : Else-out_of_range) → out_of_range c.args.n ≡ false
-in_bounds c = sym c.out_of_range.ensures ∙ c.if-out_of_range.false
-
-pub overflow_mul-outputs_fit : goal.overflow_mul-outputs_fit
-overflow_mul-outputs_fit c = omega (arith, in_range _ (in_bounds c))
-
-pub overflow_mul-outputs_fit-2 : goal.overflow_mul-outputs_fit-2
-overflow_mul-outputs_fit-2 c = omega (arith, in_range _ (in_bounds c))
-
-pub overflow_sub-outputs_fit : goal.overflow_sub-outputs_fit
-overflow_sub-outputs_fit c = omega (arith, in_range _ (in_bounds c))
-
-pub overflow_mul-n : goal.overflow_mul-n
-overflow_mul-n c = omega (arith, in_range _ (in_bounds c))
-
-pub returns-then-not-references-n : goal.returns-then-not-references-n
-unfolding rebuild_lengths
-returns-then-not-references-n c =
-    let p = (goal.at.returns-then-not-references-n c).Else-out_of_range in
+pub returns-in_err-refuse_if : goal.returns-in_err-refuse_if
+returns-in_err-refuse_if c =
     let a = c.args in
-    rebuild_kept a.n a.references.now a.wood.now a.triangles.now 2
-    (number_2 a.n a.references.now a.wood.now a.triangles.now (in_bounds p) c.if-not-references-n.true) (eqb-false 2 0 refl) (omega arith)
+    let s = c.in_ok-size in
+    rw (sym s.ensures.ok)
+    (lengths_refuse s.size.vertices a.references.now a.wood.now a.triangles.now _ _ c.from_residual-in_err-refuse_if.ensures.1
+    c.lengths_fit.result s.size.in_range c.lengths_fit.ensures c.in_err-refuse_if.ensures)
 
 -- past both tests the sizes are right
-right : (c : Else-not-references-n)
-    → let a = c.args in
-    RightSizes a.n a.references.now a.wood.now a.triangles.now
-unfolding rebuild_lengths
+right : (c : In_ok-refuse_if) → let a = c.args in RightSizes c.in_ok-size.size.vertices a.references.now a.wood.now a.triangles.now
 right c =
     let a = c.args in
-    right_sizes a.n a.references.now a.wood.now a.triangles.now (sym c.out_of_range.ensures ∙ c.if-out_of_range.false) c.if-not-references-n.false
+    right_sizes c.in_ok-size.size.vertices a.references.now a.wood.now a.triangles.now
+    c.lengths_fit.result c.in_ok-size.size.in_range c.lengths_fit.ensures c.in_ok-refuse_if.ensures
 
-pub decode_mesh-requires : goal.decode_mesh-requires
-decode_mesh-requires c = right (goal.at.decode_mesh-requires c).Else-not-references-n
+pub invariant_of-given : goal.invariant_of-given
+invariant_of-given c = record { whole = (right (goal.at.invariant_of-given c).In_ok-refuse_if).references_right }
 
-pub returns-then-decode_mesh : goal.returns-then-decode_mesh
-returns-then-decode_mesh c =
-    let p = (goal.at.returns-then-decode_mesh c).Else-not-references-n in
+pub decode_mesh-decoded-requires : goal.decode_mesh-decoded-requires
+decode_mesh-decoded-requires c = let r = right (goal.at.decode_mesh-decoded-requires c).In_ok-refuse_if in (r.wood_right, r.triangles_right)
+
+pub returns-then-is_err : goal.returns-then-is_err
+returns-then-is_err c =
     let a = c.args in
-    rebuild_done a.n a.references.now a.wood.now a.triangles.now (right p) c.decode_mesh.result _ _ c.decode_mesh.ensures c.if-decode_mesh.true
+    let s = c.in_ok-size in
+    let d = c.decode_mesh-decoded in
+    rw (sym s.ensures.ok)
+    (rebuild_marked s.size.vertices a.references.now a.wood.now a.triangles.now (right (goal.at.returns-then-is_err c).In_ok-refuse_if) _ _ _ d.ensures _ _
+    c.if-is_err.ensures.negation d.auto.wood d.auto.triangles c.mark_all.ensures c.mark_all-then-is_err.ensures)
 
-pub returns : goal.returns
-returns c =
-    let p = (goal.at.returns c).Else-not-references-n in
+pub returns-else-is_err : goal.returns-else-is_err
+returns-else-is_err c =
     let a = c.args in
-    rebuild_marked a.n a.references.now a.wood.now a.triangles.now (right p) c.decode_mesh.result _ _ c.decode_mesh.ensures _ _ c.if-decode_mesh.false
-    c.decode_mesh.auto.wood c.decode_mesh.auto.triangles c.mark_all.ensures c.mark_all-2.ensures
+    let s = c.in_ok-size in
+    let d = c.decode_mesh-decoded in
+    rw (sym s.ensures.ok)
+    (rebuild_done s.size.vertices a.references.now a.wood.now a.triangles.now (right (goal.at.returns-else-is_err c).In_ok-refuse_if) _ _ _ d.ensures
+    c.if-is_err.ensures.negation)

@@ -1,20 +1,24 @@
--- `edge_between` looks for an edge out of a, then for one into it.
-use Rattle.tables.proofs.EdgeLaws.{found_out, found_into, found_none}
+-- `edge_between` reads the label, whose colour is below 3.
+use mathlib.Core.Path.{ap}
+use Rattle.mesh.specs.Wood.{edge_at, edge_by}
+use Rattle.tables.proofs.EdgeLaws.{colour_out, colour_into}
+use native.Mathlib.Omega.{arith}
 use Rattle.tables.proofs.edge.edge_between.Goals as goal
 
-pub returns-then-out-lt3 : goal.returns-then-out-lt3
-returns-then-out-lt3 c =
-    let s = c.args in
-    found_out s.ws.now s.a s.b c.colour_to-out.result c.colour_to-out.ensures c.if-out-lt3.true
+pub overflow_add-result : goal.overflow_add-result
+overflow_add-result c = let s = c.args in let l = colour_out s.ws.now s.a s.b c.in-Out.colour c.in-Out.ensures in omega arith
 
-pub returns-then-into-lt3 : goal.returns-then-into-lt3
-returns-then-into-lt3 c =
-    let s = c.args in
-    found_into s.ws.now s.a s.b c.colour_to-into.result c.colour_to-out.result c.colour_to-out.ensures
-    c.if-out-lt3.false c.colour_to-into.ensures c.if-into-lt3.true
+pub overflow_add-result-in-Into : goal.overflow_add-result-in-Into
+overflow_add-result-in-Into c = let s = c.args in let l = colour_into s.ws.now s.a s.b c.in-Into.colour c.in-Into.ensures in omega arith
 
-pub returns : goal.returns
-returns c =
-    let s = c.args in
-    found_none s.ws.now s.a s.b c.colour_to-into.result c.colour_to-out.result c.colour_to-out.ensures
-    c.if-out-lt3.false c.colour_to-into.ensures c.if-into-lt3.false
+pub returns-in-Out : goal.returns-in-Out
+unfolding edge_at
+returns-in-Out c = ap (edge_by c.args.a c.args.b) c.in-Out.ensures
+
+pub returns-in-Into : goal.returns-in-Into
+unfolding edge_at
+returns-in-Into c = ap (edge_by c.args.a c.args.b) c.in-Into.ensures
+
+pub returns-in-Bare : goal.returns-in-Bare
+unfolding edge_at
+returns-in-Bare c = ap (edge_by c.args.a c.args.b) c.in-Bare.ensures

@@ -1,0 +1,22 @@
+-- `high_corner` asks each triangle for its three corners.
+use Rattle.std.proofs.Common.{rules, tests, ◌/◌}
+use mathlib.Core.Path.{ap, ◌∙◌}
+use lib.ListN.{length, get_or}
+use lib.Dec.{leb}
+use Rattle.mesh.specs.Search.{some}
+use Rattle.mesh.specs.Verdict.{corner_fault}
+use Rattle.mesh.proofs.Ranges.{some_from_any}
+use Rattle.tables.specs.Corners.{corners_of}
+use Rattle.triangles.proofs.CornerLaws.{by_triangles, corner_test, three_each}
+use native.Mathlib.Omega.{arith}
+use Rattle.triangles.proofs.table.TriangleTable.high_corner.Goals as goal
+
+pub returns : goal.returns
+returns c =
+    let table = c.args.self in
+    let ts = table.corners.now in
+    let n = table.size.vertices in
+    some_from_any (λ t. some (λ k. leb n (get_or (corners_of ts t) k 0)) 3) 0 (length ts / 3) (λ k l. absurd (omega arith)) _ _ _
+    c.any.ensures.ran (ap (λ m. record { start = 0; end = m }) c.many.ensures) (λ x b q k. search (rules, tests)) ∙
+    by_triangles (corner_fault n ts) _ (λ t. corner_test ts t n) (length ts / 3) ∙
+    ap (some (corner_fault n ts)) (three_each n (length ts) table.whole)
