@@ -5,7 +5,7 @@ use arraytext::{ANSWERS_LIMIT, ARRAY_LIMIT};
 use std::io;
 
 // The three programs on text have a `main` each: a shared one would be public and take the answer as a closure, and so require that it
-// may be called; it would save five lines of ten.
+// may be called, which no public function does; it would save five lines of ten.
 fn main(rt: HostRuntime) -> io::Result<()> {
     // One byte more than the longest array's text, so that a longer one shows.
     let mut text = [0u8; ARRAY_LIMIT + 1];

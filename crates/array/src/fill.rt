@@ -12,7 +12,7 @@ use tables::edge::{edge_between, used};
 use tables::hand::Hand;
 use tables::limits::UNUSED;
 use tables::side::before;
-use tables::table::{at, fill_by};
+use tables::table::at;
 
 #[derive(Clone, Copy, Debug, PartialEq, Eq)]
 enum End {
@@ -99,17 +99,22 @@ impl<'a> Accepted<'a> {
         }
     }
 
+    // Two loops: one function for both would have to ask of its callers that the closure that it takes may be called.
     pub(crate) fn fill_references(self, references: &mut [u16])
         requires { length references.old ≡ references_length self.sided.size.vertices }
         ensures { references.new ≡ references_of self.entry.sided.size.vertices self.entry.sided.triangles.now self.entry.sided.wood.now }
     {
-        fill_by(references, |i| self.reference_at(i));
+        for (i, place) in references.iter_mut().enumerate() {
+            *place = self.reference_at(i);
+        }
     }
 
     pub(crate) fn fill_service(self, service: &mut [u8])
         requires { length service.old ≡ service_length self.sided.size.vertices }
         ensures { service.new ≡ service_of self.entry.sided.size.vertices self.entry.sided.triangles.now self.entry.sided.wood.now }
     {
-        fill_by(service, |j| self.service_at(j));
+        for (j, place) in service.iter_mut().enumerate() {
+            *place = self.service_at(j);
+        }
     }
 }

@@ -14,7 +14,6 @@ use tables::edge::used;
 use tables::limits::UNUSED;
 use tables::refusal::{Refusal, refuse_if};
 use tables::size::Size;
-use tables::table::fill_by;
 
 // The number that digits F alone write, which stand for the mark.
 const HIGHEST: u16 = UNUSED >> (16 - 4 * WIDTH);
@@ -74,18 +73,23 @@ impl<'a> ArrayText<'a> {
         EdgeFrame { text, edge: j }.number(3 * WIDTH, 1) as u8
     }
 
+    // Two loops, as in crate array: a function that takes a closure would have to ask that it may be called.
     pub(crate) fn read_references(&self, references: &mut [u16])
         requires { length references.old ≡ references_length self.now.size.vertices }
         ensures { references.new ≡ references_in self.now.size.vertices self.now.text.now }
     {
-        fill_by(references, |i| self.reference(i));
+        for (i, place) in references.iter_mut().enumerate() {
+            *place = self.reference(i);
+        }
     }
 
     pub(crate) fn read_service(&self, service: &mut [u8])
         requires { length service.old ≡ service_length self.now.size.vertices }
         ensures { service.new ≡ services_in self.now.size.vertices self.now.text.now }
     {
-        fill_by(service, |j| self.service_byte(j));
+        for (j, place) in service.iter_mut().enumerate() {
+            *place = self.service_byte(j);
+        }
     }
 }
 

@@ -14,7 +14,6 @@ use frames::{is_line, number_at};
 use tables::edge::ANCHOR_TARGETS;
 use tables::refusal::{Refusal, refuse_if};
 use tables::size::Size;
-use tables::table::fill_by;
 
 // A text of so many frames behind its head and nothing more, whatever stands in them.
 #[derive(Clone, Copy)]
@@ -103,12 +102,15 @@ impl<'a> MeshText<'a> {
         number_at(self.text, place, WIDTH)
     }
 
-    // Fills the table with the numbers of the frames from number `from` on.
+    // Fills the table with the numbers of the frames from number `from` on. Its own loop: a function of crate
+    // tables that takes a closure would have to ask that it may be called.
     fn fill_numbers(&self, from: usize, table: &mut [u16])
         requires { from + length table.old ≤ 3 * frame_count width self.now.text.now }
         ensures { table.new ≡ numbers_from width self.now.text.now from (length table.old) }
     {
-        fill_by(table, |i| self.number_in(from + i));
+        for (i, place) in table.iter_mut().enumerate() {
+            *place = self.number_in(from + i);
+        }
     }
 
     pub(crate) fn fill_corners(&self, corners: &mut [u16])

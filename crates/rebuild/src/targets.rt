@@ -6,7 +6,6 @@ ghost use Rattle.mesh.specs.Rebuild.{rebuilt_target, rebuilt_wood};
 use questions::walk::target;
 use tables::limits::UNUSED;
 use tables::size::Size;
-use tables::table::fill_by;
 
 // The references given, as many as their size asks. The questions have a like value of their own: shared, it would be public with the
 // loads that are all that another layout of an array replaces.
@@ -30,10 +29,13 @@ impl Given<'_> {
         }
     }
 
+    // Its own loop: a function of crate tables that takes a closure would have to ask that it may be called.
     pub(crate) fn decode_wood(self, wood: &mut [u16])
         requires { length wood.old ≡ wood_length self.size.vertices }
         ensures { wood.new ≡ rebuilt_wood self.entry.size.vertices self.entry.references.now }
     {
-        fill_by(wood, |j| self.target(j));
+        for (j, place) in wood.iter_mut().enumerate() {
+            *place = self.target(j);
+        }
     }
 }

@@ -1,14 +1,19 @@
--- A table that is written place by place is the list that the function gives.
-use Prim.Native.Nat.{ℕ, ◌<◌}
+-- A loop that writes a table from its front, one place a turn: what the places passed hold, and the list that they are at its end.
+use Prim.Native.Nat.{ℕ, ◌<◌, ◌≤◌}
 use native.Mathlib.Omega.{arith}
-use mathlib.Core.Path.{◌≡◌}
+use mathlib.Core.Path.{◌≡◌, ◌∙◌}
 use mathlib.Core.List.{List}
-use lib.ListN.{length, get_or}
+use lib.ListN.{length}
+use Rattle.std.specs.List.{HoldsAt}
 use Rattle.mesh.specs.Search.{tabulate}
 use Rattle.mesh.proofs.Lists.{tabulate_is}
-use Rattle.tables.specs.Table.{FilledBy}
 
-pub filled_tabulate : {F : Type 0} {post : F → ℕ → ℕ → Type 0} {f : F} {old new : List ℕ} (g : ℕ → ℕ)
-    → ((i y : ℕ) → i < length old → post f i y → y ≡ g i) → FilledBy post f old new → new ≡ tabulate g (length old)
-filled_tabulate {F} {post} {f} {old} {new} g h filled =
-    tabulate_is g (length old) new 0 filled.same_length (λ k l. let e : k < length old = omega (arith, filled.same_length) in h k (get_or new k 0) e (filled.each k e 0))
+-- each of the first m places holds what g gives for it
+abbrev pub FilledBelow : (ℕ → ℕ) → ℕ → List ℕ → Type 0
+FilledBelow g m table = (k : ℕ) → k < m → HoldsAt (λ y. y ≡ g k) table k
+
+-- at the loop's end i has come to the table's length, which is m
+pub filled_tabulate : (g : ℕ → ℕ) (m : ℕ) (table old : List ℕ) (i : ℕ) → length table ≡ length old → length old ≤ i → length old ≡ m
+    → FilledBelow g i table → table ≡ tabulate g m
+filled_tabulate g m table old i e end long filled =
+    tabulate_is g m table 0 (e ∙ long) (λ k l. filled k (omega arith) 0)

@@ -4,6 +4,5 @@ pub mod Hand
 pub mod Corners
 pub mod Turning
 pub mod Checked
-pub mod Table
 pub mod Edge
 pub mod Label

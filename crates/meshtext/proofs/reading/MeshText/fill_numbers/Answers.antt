@@ -1,11 +1,7 @@
--- `fill_numbers` fills the table by the numbers of the frames in a row.
-use Rattle.std.proofs.Common.{rules, ◌+◌}
-use Rattle.frames.specs.Frames.{width}
+-- At the loop's end the places are these numbers.
+use mathlib.Core.Path.{refl}
 use Rattle.tables.proofs.FillLaws.{filled_tabulate}
-use Rattle.meshtext.specs.Reading.{number_in}
 use Rattle.meshtext.proofs.reading.MeshText.fill_numbers.Goals as goal
 
 pub returns : goal.returns
-returns c =
-    let a = c.args in
-    filled_tabulate (λ q. number_in width a.self.now.text.now (a.from + q)) (λ i y l k. search rules) c.fill_by.ensures
+returns c = filled_tabulate _ _ _ _ _ c.loop-i.auto.table c.loop-i-test.false refl c.loop-i.invariant
