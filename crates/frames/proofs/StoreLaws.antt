@@ -1,5 +1,5 @@
--- Stores one after the other: a run of stores can be made in pieces, or from its last to its first. Pieces stored from a place on, each
--- where the last one ended, are the whole stored there.
+-- Stores one after the other: a run of stores can be made in pieces. Pieces stored from a place on, each where the last one ended, are
+-- the whole stored there.
 use Prim.Native.Nat.{ℕ, suc, ◌+◌, ◌*◌, ◌≤◌}
 use native.Mathlib.Nat.{add-zero, add-suc, suc-add, zero-mul, suc-mul}
 use native.Mathlib.Numerals.{add-one}

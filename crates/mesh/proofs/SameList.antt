@@ -1,4 +1,4 @@
--- The comparison of two lists: it passes exactly where they are equal, and one place that differs decides it.
+-- The comparison of two lists: it passes exactly where they are equal.
 use Prim.Native.Nat.{ℕ}
 use mathlib.Core.Path.{◌≡◌, refl, ap₂}
 use mathlib.Core.List.{List, [], ◌∷◌}

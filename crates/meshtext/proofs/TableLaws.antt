@@ -16,7 +16,7 @@ module _ (text : List ℕ) where
   unfolding triangles_in
   length_triangles = length_tabulate _ (3 * triangle_count width text)
 
-  length_targets : length (targets_in width text) ≡ 3 * (frame_count width text - triangle_count width text)
+  pub length_targets : length (targets_in width text) ≡ 3 * (frame_count width text - triangle_count width text)
   unfolding targets_in
   length_targets = length_tabulate _ (3 * (frame_count width text - triangle_count width text))
 

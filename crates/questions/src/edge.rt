@@ -10,7 +10,7 @@ ghost use Rattle.questions.specs.Answers.{edge_at, front_of, edge_listed};
 
 use crate::array::{Edge, References, Served};
 use crate::order::known_edge;
-use tables::edge::is_edge;
+use tables::edge::used;
 use tables::hand::Hand;
 use tables::refusal::{Refusal, refuse_if};
 
@@ -28,16 +28,18 @@ impl<'a> References<'a> {
     }
 
     // The edge that the array leads to: torn where it is none.
-    #[tactic(auto, unfolding(mesh::specs::Reading::edge_answer), using(mesh::proofs::Walk::edge_bound))]
+    #[tactic(auto, unfolding(mesh::specs::Reading::edge_answer), using(mesh::proofs::Walk::edge_bound, tables::proofs::EdgeLaws::leaves_below))]
     fn edge(self, e: u16) -> Result<Edge<'a>, Refusal>
         ensures answer { edge_listed result ≡ edge_answer self.entry.size.vertices e }
         ensures ok { IfOk result (λ f. edge_at self.entry.size.vertices self.entry.fronts.now e f × (is_edge self.entry.size.vertices e ≡ true)) }
         ensures err { OnErr result (is_edge self.entry.size.vertices e ≡ false) }
     {
-        if is_edge(self.size.vertices, e as usize) {
+        // `is_edge` without its division: a walk asks at each step, and here n is small enough for the product.
+        let index = e as usize;
+        if index < self.size.edges() && used(index) {
             Ok(Edge {
                 references: self,
-                index: e as usize,
+                index,
             })
         } else {
             Err(Refusal::Torn)

@@ -77,11 +77,11 @@ module _ (n : ℕ) (refs old ws ts : List ℕ) (k : ℕ) (o : length old ≡ tri
 
 module _ (n : ℕ) (refs ws ts : List ℕ) where
   -- the sizes, as the code finds them
-  number_1 : out_of_range n ≡ true → rebuild_number n refs ws ts ≡ 1
+  pub number_1 : out_of_range n ≡ true → rebuild_number n refs ws ts ≡ 1
   unfolding rebuild_number
   number_1 e = stands 1 (out_of_range n) _ e
 
-  number_2 : out_of_range n ≡ false → rebuild_lengths n refs ws ts ≡ false → rebuild_number n refs ws ts ≡ 2
+  pub number_2 : out_of_range n ≡ false → rebuild_lengths n refs ws ts ≡ false → rebuild_number n refs ws ts ≡ 2
   unfolding rebuild_number
   number_2 a e = falls 1 (out_of_range n) _ a ∙ stands 2 (not (rebuild_lengths n refs ws ts)) _ (rw e)
 
@@ -103,7 +103,7 @@ module _ (n : ℕ) (refs ws ts : List ℕ) where
 
   -- 1 and 2 change nothing
   module _ (r : Result ⊤ Refusal) (e : Refusal) (h : IsErrAnd r (λ x. x ≡ e)) where
-    rebuild_kept : number e ≡ rebuild_number n refs ws ts → number e < 3 → Rebuild n refs ws ts r ws ts
+    pub rebuild_kept : number e ≡ rebuild_number n refs ws ts → number e < 3 → Rebuild n refs ws ts r ws ts
     rebuild_kept z l =
         let d : number e ≢ 0 = λ z. let p = number_above e in omega arith in
         record {

@@ -66,11 +66,11 @@ module _ (ws : List ℕ) (a b : ℕ) where
 
 -- what a search for the colour found
 module _ (ws : List ℕ) (a b : ℕ) where
-  between_some : (k : ℕ) → colour_between ws a b ≡ Some k → (k ≡ colour_to ws a b) × (k < 3)
+  pub between_some : (k : ℕ) → colour_between ws a b ≡ Some k → (k ≡ colour_to ws a b) × (k < 3)
   unfolding colour_to
   between_some k e = lowest_found _ 3 k e
 
-  between_none : colour_between ws a b ≡ None → 3 ≤ colour_to ws a b
+  pub between_none : colour_between ws a b ≡ None → 3 ≤ colour_to ws a b
   unfolding colour_to
   between_none e = let f = first_none (λ c. eqb (target ws (edge_of a c)) b) 3 (lowest_found_none _ 3 e) in omega arith
 

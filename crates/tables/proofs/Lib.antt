@@ -7,3 +7,5 @@ pub mod TableLaws
 pub mod HandLaws
 pub mod FillLaws
 pub mod RungLaws
+pub mod LabelLaws
+pub mod SizeLaws

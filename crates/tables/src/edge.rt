@@ -15,7 +15,8 @@ pub const ANCHOR_TARGETS: [u16; 9] = [UNUSED, UNUSED, UNUSED, 0, UNUSED, UNUSED,
 pub fn used(j: usize) -> bool
     ensures { result ≡ used j }
 {
-    matches!(j, 3 | 6 | 7 | 9..)
+    // The most first, and one by one: a walk asks at each step, and a pattern of all four is compiled to a slower test.
+    9 <= j || j == 3 || j == 6 || j == 7
 }
 
 // By the vertex that it leaves, so that no product can grow too large.

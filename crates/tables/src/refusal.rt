@@ -1,5 +1,5 @@
 // Why a call is refused; specs/Refusal.antt says which number is which.
-ghost use Rattle.std.specs.Prelude.{◌≡◌, cond};
+ghost use Rattle.std.specs.Prelude.{◌≡◌, cond, Some, decimal};
 ghost use Rattle.tables.specs.Refusal.{number, number_met};
 
 use std::fmt;
@@ -37,7 +37,10 @@ impl Refusal {
     }
 }
 
+// It prints as its number in decimal.
 impl fmt::Display for Refusal {
+    ghost output = { λ refusal. Some (decimal (number refusal)) };
+
     fn fmt<W: fmt::Write>(&self, f: &mut fmt::Formatter<W>) -> fmt::Result {
         let number = self.number();
         write!(f, "{number}")

@@ -10,7 +10,7 @@ ghost use Rattle.tables.specs.Turning.{turn_in_table};
 ghost use Rattle.triangles.specs.Turns.{back_early, turn_broken, Tally, Untallied};
 
 use crate::table::TriangleTable;
-use tables::limits::{MOST_VERTICES, UNUSED};
+use tables::limits::MOST_VERTICES;
 use tables::side::turn_at;
 
 // How many sides leave a vertex, and one of them where there is one. A degree of 0 says that there is none; an `Option` would say it
@@ -63,8 +63,9 @@ impl<'a> TriangleTable<'a> {
         requires { Paired self.size.vertices self.corners.now × (twins.now ≡ twins_of self.corners.now) }
         ensures { result ≡ some (turn_fault self.entry.size.vertices (third self.entry.corners.now)) self.entry.size.vertices }
     {
+        // All zero, so that one fill makes the table; a start counts only beside its degree.
         let none = Spokes {
-            start: UNUSED,
+            start: 0,
             degree: 0,
         };
         let mut spokes = [none; MOST_VERTICES];

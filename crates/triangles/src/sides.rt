@@ -16,7 +16,9 @@ impl<'a> TriangleTable<'a> {
         self.find(self.side(p)).is_some_and(|first| first < p)
     }
 
-    // 5: the first position whose side occurs before.
+    // 5: the first position whose side occurs before. Both searches over all sides stay functions of their own in the program: laid into
+    // their caller, by where they came to lie, they took up to a third more time.
+    #[inline(never)]
     pub(crate) fn repeated_side(self) -> Option<usize>
         ensures { result ≡ lowest (repeat_fault self.entry.corners.now) (length self.entry.corners.now) }
     {
@@ -24,6 +26,7 @@ impl<'a> TriangleTable<'a> {
     }
 
     // 6: the first position whose reverse does not occur. Where each does `twins` then holds them all.
+    #[inline(never)]
     pub(crate) fn pair_sides(self, twins: &mut [u16]) -> Option<usize>
         requires { length twins.old ≡ length self.corners.now }
         ensures { Pairing self.entry.corners.now result twins.new }

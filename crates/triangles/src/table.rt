@@ -66,7 +66,7 @@ impl<'a> TriangleTable<'a> {
         }
     }
 
-    // The first position of a side. Two labelled loops that leave at the first match: the form that is asked for by name.
+    // The first position of a side. Nested loops, left by the outer one's label at the first match: the form that is asked for by name.
     pub(crate) fn find(self, side: Side) -> Option<usize>
         ensures { result ≡ side_found self.entry.corners.now side.from side.to }
     {

@@ -1,5 +1,5 @@
 -- The check of a mesh, end by end: what 3 to 13 answer together, which ends the contract allows, that no two of them differ, and what
--- "done" says to a caller.
+-- "done" and a refusal say to a caller.
 use Prim.Native.Nat.{ℕ, ◌≤◌, ◌<◌}
 use mathlib.Core.Path.{◌≡◌, refl, sym, ap, ◌∙◌}
 use mathlib.Core.List.{List}
@@ -12,6 +12,7 @@ use borrow.Author.Tests.{eqb-true, eq-eqb, not-false}
 use Rattle.std.specs.Bool.{⊤}
 use Rattle.std.specs.Result.{IsErrAnd}
 use Rattle.std.specs.declared.result.Result.{Result}
+use Rattle.std.specs.declared.result.Result.TheVariants.{Err}
 use Rattle.mesh.specs.Limits.{unused_mark, out_of_range, triangles_length, wood_length}
 use Rattle.mesh.specs.Sides.{third}
 use Rattle.mesh.specs.Ladder.{first_of, NoneApplies, past}
@@ -22,7 +23,7 @@ use Rattle.mesh.proofs.Ladder.{stands, falls, none_then, some_then, first_none, 
 use Rattle.tables.specs.declared.refusal.Refusal.{Refusal}
 use Rattle.tables.specs.Refusal.{number, number_met, leaves}
 use Rattle.tables.specs.Checked.{twins_of, positions_of, Meshed}
-use Rattle.tables.proofs.RefusalLaws.{met_once, left_filled, left_alone, left_marked}
+use Rattle.tables.proofs.RefusalLaws.{number_above, met_once, left_filled, left_alone, left_marked}
 use Rattle.tables.proofs.SidedLaws.{clear_meshed}
 use Rattle.triangles.specs.Checked.{TrianglesChecked}
 use Rattle.triangles.proofs.CheckedLaws.{says_table}
@@ -181,3 +182,11 @@ module _ {n : ℕ} {ts ws twins positions : List ℕ} where
             reverses = e;
             edge_positions = f;
           }
+
+  -- refused although the sizes are right: by one of the mesh's own numbers
+  pub mesh_refused : {e : Refusal} {twins' positions' : List ℕ} → MeshChecked n ts ws twins positions (Err e) twins' positions'
+      → MeshSizes n ts ws twins positions → (first_of (mesh_ladder n ts ws) ≡ number e) × (3 ≤ number e)
+  mesh_refused {e} h s =
+      let is : number e ≡ first_of (mesh_ladder n ts ws) = h.answer ∙ says_mesh n ts ws twins positions s in
+      let a = number_above e in
+      (sym is, omega (arith, mesh_number n ts ws (λ z. omega arith)))

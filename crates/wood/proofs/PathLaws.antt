@@ -148,7 +148,7 @@ pub colour_anchor : (n : ℕ) (ws : List ℕ) (c v : ℕ) → v < 3 → colour_f
 colour_anchor n ws c v l = rw (lt-leb 3 v l)
 
 -- the rule is broken where it is for one colour
-path_found : (n : ℕ) (ws : List ℕ) (c : ℕ) → c < 3 → some (colour_fault n ws c) n ≡ true → some (path_fault n ws) n ≡ true
+pub path_found : (n : ℕ) (ws : List ℕ) (c : ℕ) → c < 3 → some (colour_fault n ws c) n ≡ true → some (path_fault n ws) n ≡ true
 unfolding path_fault
 path_found n ws c l t =
     let w = some_at (colour_fault n ws c) n t in
